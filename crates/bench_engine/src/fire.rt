@@ -5,7 +5,7 @@ ghost use Rattle.sp_paths.specs.Paths.{IsVertex};
 
 use sp_files::Tree;
 use sp_graph::Graph;
-use sp_plain::{Answer, GraphKind, Random, plain_tree, random_graph};
+use sp_judge::{Answer, GraphKind, Random, plain_tree, random_graph};
 use sp_run::{RunError, run_by_team};
 use sp_team::Team;
 use sp_word::{Delta, Meter, Word, Workers};

@@ -12,14 +12,14 @@ use std::sync::Wait;
 use std::thread::Threads;
 use std::time::Clock;
 use std::{env, io};
-use whole::{Paths, Plan};
+use whole::{Paths, RunPlan};
 
 const USAGE: &str =
     "usage: bench_engine whole GR SS DELTA WORKERS TREES | pairs GR PAIRS DELTA WORKERS | fire GRAPHS SEED";
 
 // The plan that two words of the command line specify.
-fn plan_of(delta: &str, workers: &str) -> Option<Plan> {
-    Plan::new(delta.parse().ok()?, workers.parse().ok()?)
+fn plan_of(delta: &str, workers: &str) -> Option<RunPlan> {
+    RunPlan::new(delta.parse().ok()?, workers.parse().ok()?)
 }
 
 // Runs the command that these words give, or prints the usage.

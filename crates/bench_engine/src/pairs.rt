@@ -4,10 +4,10 @@ ghost use Rattle.sp_word.specs.Word.{max_pred};
 ghost use Rattle.sp_dimacs.specs.Graph.{IsNetwork};
 
 use crate::report::print_each;
-use crate::whole::Plan;
+use crate::whole::RunPlan;
 use sp_dimacs::{GrFile, OfRead, PairsFile, read_gr, read_pairs};
 use sp_graph::Graph;
-use sp_run::{Query, run_targets, useful_team};
+use sp_run::{TargetsQuestion, run_targets, useful_team};
 use sp_word::{Meter, Team};
 use std::alloc::{AllocError, Global};
 use std::rt::Files;
@@ -21,7 +21,7 @@ pub fn time_pairs<R: AllocGlobal + Clock + Files + Print + Threads + Wait + Sync
     rt: &R,
     graph: &str,
     pairs: &str,
-    plan: Plan,
+    plan: RunPlan,
 ) -> io::Result<()> {
     let start = Instant::now(rt)?;
     let mut file = OfRead::new(fs::open(rt, graph)?);
@@ -41,7 +41,7 @@ fn time_targets<R: AllocGlobal + Clock + Files + Print + Threads + Wait + Sync>(
     rt: &R,
     file: GrFile,
     pairs: &PairsFile,
-    plan: Plan,
+    plan: RunPlan,
 ) -> io::Result<()>
     requires { IsNetwork 28 file }
 {
@@ -58,7 +58,7 @@ fn find_all<R: AllocGlobal + Threads + Wait + Sync>(
     rt: &R,
     graph: &Graph,
     pairs: &[(u32, u32)],
-    plan: &Plan,
+    plan: &RunPlan,
 ) -> Result<(), AllocError>
     requires { graph.now.n ≤ max_pred 28 }
 {
@@ -77,7 +77,7 @@ fn find<R: AllocGlobal + Threads + Wait + Sync>(
     rt: &R,
     graph: &Graph,
     pairs: &[(u32, u32)],
-    plan: &Plan,
+    plan: &RunPlan,
     source: u32,
 ) -> Result<(), AllocError>
     requires { graph.now.n ≤ max_pred 28 }
@@ -86,7 +86,7 @@ fn find<R: AllocGlobal + Threads + Wait + Sync>(
         return Ok(());
     }
     let targets = targets_of(rt.alloc(), graph, pairs, source)?;
-    let query = Query {
+    let query = TargetsQuestion {
         source,
         targets: &targets,
     };

@@ -17,15 +17,15 @@ use std::{fs, io};
 
 /// The width of a bucket, and the number of workers.
 #[derive(Clone, Copy)]
-pub struct Plan {
+pub struct RunPlan {
     pub delta: Delta<28>,
     pub workers: Workers,
 }
 
-impl Plan {
+impl RunPlan {
     /// A plan, if these numbers are in range.
-    pub fn new(delta: u64, workers: u32) -> Option<Plan> {
-        Some(Plan {
+    pub fn new(delta: u64, workers: u32) -> Option<RunPlan> {
+        Some(RunPlan {
             delta: Delta::new(delta)?,
             workers: Workers::new(workers)?,
         })
@@ -42,7 +42,7 @@ pub struct Paths<'a> {
 
 // How long the parts took for all sources, and how many vertices were relaxed and reached.
 #[derive(Clone, Copy)]
-struct Taken {
+struct Durations {
     solving: Duration,
     writing: Duration,
     relaxed: u64,
@@ -53,7 +53,7 @@ struct Taken {
 pub fn time_whole<R: AllocGlobal + Clock + Files + Print + Threads + Wait + Sync>(
     rt: &R,
     paths: &Paths,
-    plan: Plan,
+    plan: RunPlan,
 ) -> io::Result<()> {
     let start = Instant::now(rt)?;
     let mut file = OfRead::new(fs::open(rt, paths.graph)?);
@@ -73,7 +73,7 @@ fn time_trees<R: AllocGlobal + Clock + Files + Print + Threads + Wait + Sync>(
     rt: &R,
     file: GrFile,
     sources: &SsFile,
-    plan: Plan,
+    plan: RunPlan,
     trees: &str,
 ) -> io::Result<()>
     requires { IsNetwork 28 file }
@@ -93,12 +93,12 @@ fn answer_all<R: AllocGlobal + Clock + Threads + Wait + Sync, W: Write>(
     rt: &R,
     graph: &Graph,
     sources: &[u32],
-    plan: Plan,
+    plan: RunPlan,
     out: &mut W,
-) -> io::Result<Taken>
+) -> io::Result<Durations>
     requires { graph.now.n ≤ max_pred 28 }
 {
-    let mut taken = Taken {
+    let mut taken = Durations {
         solving: Duration::ZERO,
         writing: Duration::ZERO,
         relaxed: 0,
@@ -125,7 +125,7 @@ fn solve<R: AllocGlobal + Threads + Wait + Sync>(
     rt: &R,
     graph: &Graph,
     source: u32,
-    plan: Plan,
+    plan: RunPlan,
     meter: &Meter,
 ) -> io::Result<Tree<28>>
     requires { graph.now.n ≤ max_pred 28 }

@@ -5,7 +5,7 @@ use Rattle.std.proofs.lemmas.List.{length-append}
 use Rattle.std.proofs.lemmas.List.Elements.{All-more}
 use Rattle.sp_word.specs.Word.{Word, Unreached, Pair, Fits}
 use Rattle.sp_answer.specs.Table.{row_of, rows_from}
-use Rattle.sp_answer.proofs.RisingRows.{rows_more}
+use Rattle.sp_answer.proofs.VertexRows.{rows_more}
 
 -- So many of the first words are reached, and all of these fit their layout.
 pub record IsCount (P : ℕ) (words : List Word) (i count : ℕ) : Type 0 where
@@ -25,7 +25,7 @@ one_row v (Pair d p) = omega arith
 pub one_more : (P : ℕ) (words : List Word) (i count one : ℕ) (x : Word) → i < length words → x ≡ get_or words i x → IsCount P words i count → one ≡ length (row_of 0 x) → Fits P x → IsCount P words (i + 1) (count + one)
 one_more P words i count one x within is before one_is fits =
     let front = rows_from 1 (take i words) in
-    let grown : length (rows_from 1 (take (i + 1) words)) ≡ length front + length (row_of (i + 1) x) = ap length (rows_more words i x within is) ∙ length-append front (row_of (i + 1) x) in
+    let grown : length (rows_from 1 (take (i + 1) words)) ≡ length front + length (row_of (i + 1) x) = ap length (rows_more (ℕ × Word) row_of rows_from (λ v. refl) (λ v w words. refl) words i x within is) ∙ length-append front (row_of (i + 1) x) in
     record {
       is = omega (arith, grown, before.is, one_is, any_row 0 (i + 1) x);
       few = omega (arith, before.few, one_is, one_row 0 x);

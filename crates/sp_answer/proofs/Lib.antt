@@ -1,3 +1,12 @@
+pub mod VertexRows
 pub mod CountedWords
 pub mod RisingRows
 pub mod RowsWithin
+pub mod RootSteps
+pub mod ForestRows
+pub mod ForestAnswers
+pub mod ForestWords
+pub mod OneSource
+pub mod TargetAnswers
+pub mod RunAnswers
+pub mod TargetRoutes

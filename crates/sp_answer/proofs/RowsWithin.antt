@@ -1,18 +1,19 @@
 -- The rows of the words up to a limit.
-use Rattle.std.proofs.Common.{◌≡◌, ℕ, ◌+◌, ◌-◌, ◌<◌, ◌≤◌, ◌⊎◌, inl, inr, true, List, [], ◌∷◌, ◌++◌, length, take, get_or, Some, refl, sym, ap, ◌∙◌, subst, arith}
+use Rattle.std.proofs.Common.{◌≡◌, ℕ, ◌+◌, ◌-◌, ◌<◌, ◌≤◌, ◌⊎◌, inl, inr, true, List, [], ◌∷◌, ◌++◌, length, take, get_or, Some, refl, sym, ap, subst, arith}
 use Rattle.std.specs.Prelude.{All, map, nat_le, slice_get}
 use Rattle.std.proofs.lemmas.Bool.{cases_lt, le-leb, lt-leb, cond-true, cond-false}
-use Rattle.std.proofs.lemmas.List.{append-nil, length-map, length-take-le, map-append, take_more}
-use Rattle.std.proofs.lemmas.List.Elements.{All-map, All-more, All-weaker}
+use Rattle.std.proofs.lemmas.List.{length-map}
+use Rattle.std.proofs.lemmas.List.Elements.{All-map, All-weaker}
 use Rattle.sp_word.specs.Word.{Word, Unreached, Pair, Fits, dist_of, max_pred, is_layout}
 use Rattle.sp_answer.specs.Table.{IsTable, HasPredWithin, row_of, rows_from, table_of, tree_of}
 use Rattle.sp_answer.specs.Within.{up_to}
-use Rattle.sp_answer.proofs.RisingRows.{rows_from-append, tree_is_table, words_are}
+use Rattle.sp_answer.proofs.VertexRows.{row_taken}
+use Rattle.sp_answer.proofs.RisingRows.{tree_is_table, words_are}
 
-kept : (limit d p : ℕ) → d ≤ limit → up_to limit (Pair d p) ≡ Pair d p
+pub kept : (limit d p : ℕ) → d ≤ limit → up_to limit (Pair d p) ≡ Pair d p
 kept limit d p low = cond-true (nat_le d limit) (Pair d p) Unreached (le-leb d limit low)
 
-dropped : (limit d p : ℕ) → limit < d → up_to limit (Pair d p) ≡ Unreached
+pub dropped : (limit d p : ℕ) → limit < d → up_to limit (Pair d p) ≡ Unreached
 dropped limit d p high = cond-false (nat_le d limit) (Pair d p) Unreached (lt-leb d limit high)
 
 -- what holds of a pair holds of it up to the limit, where it holds of an unreached word
@@ -33,21 +34,9 @@ pub within_row : (limit vertex d : ℕ) (word : Word) → Some d ≡ dist_of wor
 within_row limit vertex d Unreached is low = cc
 within_row limit vertex d (Pair e p) is low = let same : d ≡ e = cc in sym (ap (row_of vertex) (kept limit e p (omega (arith, same))))
 
-rows_grown : (f : Word → Word) (words : List Word) (i : ℕ) (x : Word) → i < length words → x ≡ get_or words i x → rows_from 1 (map f (take (i + 1) words)) ≡ rows_from 1 (map f (take i words)) ++ row_of (i + 1) (f x)
-rows_grown f words i x within is =
-    let before = take i words in
-    let vertex : 1 + length (map f before) ≡ i + 1 = omega (arith, length-map before f, length-take-le i words (omega arith)) in
-    ap (λ (ws : List Word). rows_from 1 (map f ws)) (take_more words i x within)
-    ∙ (ap (rows_from 1) (map-append f before (get_or words i x ∷ []))
-    ∙ (rows_from-append 1 (map f before) (f (get_or words i x) ∷ [])
-    ∙ ap (λ (t : List (ℕ × Word)). rows_from 1 (map f before) ++ t) (append-nil (row_of (1 + length (map f before)) (f (get_or words i x))) ∙ rw (vertex, ← is) refl)))
-
-pub row_taken : (P limit : ℕ) (words : List Word) (i : ℕ) (x : Word) (rows new : List (ℕ × Word)) → i < length words → x ≡ get_or words i x → (rows ≡ rows_from 1 (map (up_to limit) (take i words))) × All (Fits P) (take i words)
+pub row_taken_within : (P limit : ℕ) (words : List Word) (i : ℕ) (x : Word) (rows new : List (ℕ × Word)) → i < length words → x ≡ get_or words i x → (rows ≡ rows_from 1 (map (up_to limit) (take i words))) × All (Fits P) (take i words)
     → new ≡ rows ++ row_of (i + 1) (up_to limit x) → Fits P x → (new ≡ rows_from 1 (map (up_to limit) (take (i + 1) words))) × All (Fits P) (take (i + 1) words)
-row_taken P limit words i x rows new within is before pushed fits = (
-  pushed ∙ (ap (λ (t : List (ℕ × Word)). t ++ row_of (i + 1) (up_to limit x)) before.0 ∙ sym (rows_grown (up_to limit) words i x within is)),
-  All-more (Fits P) words i x within before.1 (rw (← is) fits),
-)
+row_taken_within P limit = row_taken (ℕ × Word) (λ v w. row_of v (up_to limit w)) (λ v words. rows_from v (map (up_to limit) words)) (λ v. refl) (λ v w words. refl) P
 
 -- the table of the rows
 

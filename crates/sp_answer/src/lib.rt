@@ -1,13 +1,30 @@
-//! The answer of a run from a source: its tree, as a table of rows, or the answer for one target, or why there is none.
+//! What is asked of a run (`RunRequest`), who answers it (`Engine`), and what its words answer (`RunWords`): a tree, as rows or
+//! as words, a part of it, the forest of several sources with the roots of its vertices, the answers for targets and the route
+//! to one, or why there is none.
 #![tactic(auto)]
 
 mod answer;
+mod asked;
+mod engine;
+mod forest;
 mod pair;
+mod place;
+mod reading;
+mod rooting;
+mod route;
 mod rows;
+mod run_words;
 mod tree;
-mod words;
+mod word_tree;
 
 pub use answer::RunError;
+pub use asked::{RunRequest, Until, are_vertices};
+pub use engine::Engine;
+pub use forest::Forest;
 pub use pair::PairAnswer;
+pub use reading::{answers_of, forest_of, part_of, tree_of};
+pub use rooting::roots_of;
+pub use route::route_of;
+pub use run_words::{RunWords, farthest};
 pub use tree::Tree;
-pub use words::WordTree;
+pub use word_tree::WordTree;

@@ -3,17 +3,51 @@ ghost use Rattle.std.specs.Prelude.{◌≡◌, ◌≤◌, ◌^◌, ◌<◌, ◌+
 ghost use Rattle.std.specs.Option.{is_some};
 ghost use Rattle.sp_word.specs.Word.{Fits, dist_of};
 ghost use Rattle.sp_answer.specs.Table.{row_of, rows_from};
+ghost use Rattle.sp_answer.specs.ForestTable.{row_of as rooted_row_of, rows_from as rooted_rows_from};
+ghost use Rattle.sp_answer.specs.Rooted.{root_at};
 ghost use Rattle.sp_answer.specs.Within.{up_to};
 
+use crate::rooting::root_of;
 use sp_word::Word;
 use std::alloc::{AllocError, Global};
 
-// Returns whether a walk has reached the vertex of a word.
-fn is_reached<const P: u32>(word: Word<P>) -> bool
-    ensures test { result ≡ is_some (dist_of word.entry) }
+// Returns how many rows a vertex with this word has: one, or none if it is unreached.
+fn rows_of_word<const P: u32>(word: Word<P>) -> usize
+    ensures count { result ≡ length (row_of 0 word.entry) }
     ensures range { Fits P word.entry }
 {
-    word.dist().is_some()
+    match word.dist() {
+        Some(_) => 1,
+        None => 0,
+    }
+}
+
+/// Returns the number of words that are not unreached.
+pub(crate) fn count_reached<const P: u32>(words: &[Word<P>]) -> usize
+    requires { length words.now < 2 ^ 32 }
+    ensures count { result ≡ length (rows_from 1 words.now) }
+    ensures fits { All (Fits P) words.now }
+{
+    let mut reached = 0;
+    for word in words {
+        reached += rows_of_word(*word);
+    }
+    reached
+}
+
+// Appends the row of a vertex, if it is reached.
+fn push_reached<const P: u32>(
+    rows: &mut Vec<(u32, Word<P>)>,
+    vertex: u32,
+    word: Word<P>,
+) -> Result<(), AllocError>
+    ensures rows { OnOk result (rows.new.items ≡ rows.old.items ++ row_of vertex word.entry) }
+    ensures range { Fits P word.entry }
+{
+    match word.dist() {
+        Some(_) => Ok(rows.push((vertex, word))?),
+        None => Ok(()),
+    }
 }
 
 /// Returns the rows of the reached vertices, given the words of vertex 1, 2 and so on. It allocates once.
@@ -25,12 +59,46 @@ pub fn rows_of<const P: u32>(
     ensures rows { IfOk result (λ rows. rows.items ≡ rows_from 1 words.now) }
     ensures fits { IfOk result (λ rows. All (Fits P) words.now) }
 {
-    let count = words.iter().filter(|word| is_reached(**word)).count();
-    let mut rows = Vec::with_capacity(alloc, count)?;
+    let mut rows = Vec::with_capacity(alloc, count_reached(words))?;
     for (place, word) in words.iter().enumerate() {
-        if is_reached(*word) {
-            rows.push((place as u32 + 1, *word))?;
-        }
+        push_reached(&mut rows, place as u32 + 1, *word)?;
+    }
+    Ok(rows)
+}
+
+// Appends the row of a vertex with its root, if it is reached.
+fn push_rooted<const P: u32>(
+    rows: &mut Vec<(u32, Word<P>, u32)>,
+    vertex: u32,
+    word: Word<P>,
+    root: u32,
+) -> Result<(), AllocError>
+    ensures rows { OnOk result
+        (rows.new.items ≡ rows.old.items ++ rooted_row_of vertex root word.entry) }
+    ensures range { Fits P word.entry }
+{
+    match word.dist() {
+        Some(_) => Ok(rows.push((vertex, word, root))?),
+        None => Ok(()),
+    }
+}
+
+/// Returns the rows of the reached vertices with their roots, given the words and the roots of vertex 1, 2 and so on. It allocates once.
+pub(crate) fn rooted_rows_of<const P: u32>(
+    alloc: Global,
+    words: &[Word<P>],
+    roots: &[u32],
+) -> Result<Vec<(u32, Word<P>, u32)>, AllocError>
+    requires few { length words.now < 2 ^ 32 }
+    requires size { length roots.now ≡ length words.now }
+    ensures rows { IfOk result
+        (λ rows. rows.items ≡ rooted_rows_from (root_at roots.now) 1 words.now) }
+    ensures fits { IfOk result (λ rows. All (Fits P) words.now) }
+{
+    let mut rows = Vec::with_capacity(alloc, count_reached(words))?;
+    for (place, word) in words.iter().enumerate() {
+        let vertex = place as u32 + 1;
+        push_rooted(&mut rows, vertex, *word, root_of(roots, vertex))?;
     }
     Ok(rows)
 }

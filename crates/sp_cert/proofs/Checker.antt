@@ -9,22 +9,20 @@ use Rattle.sp_word.specs.History.{Table}
 use Rattle.sp_paths.specs.declared.arc.Arc.{Arc}
 use Rattle.sp_paths.specs.Paths.{Graph, IsGraph, IsVertex, HasArc, IsAtMost, IsClosed, IsWithin, IsLeftOut}
 use Rattle.sp_paths.proofs.Walks.{arc_in}
-use Rattle.sp_paths.proofs.Core.{cases_word, pair_dist, pair_pred}
-use Rattle.sp_paths.proofs.Run.{not_both}
-use Rattle.sp_paths.proofs.Least.{any_decided}
-use Rattle.sp_forest.specs.Forests.{HasWalkFromAny, HasWalkFromAnyBy, IsNearest, IsForestWord, IsForest, IsNear, IsForestWithin, IsFar, IsLawful, IsTableFrom, IsClosedTable}
-use Rattle.sp_forest.specs.Roots.{LeadsBack}
-use Rattle.sp_forest.specs.Laws.{HasRoots, ShowsWithin}
-use Rattle.sp_forest.specs.Nearest.{IsRootAt}
-use Rattle.sp_forest.proofs.Walks.{any_none, any_more, any_by, nearest_same, nearest_below, nearest_exists}
-use Rattle.sp_forest.proofs.Core.{is_source, closed_shows_within}
-use Rattle.sp_forest.proofs.Finished.{finished_is_forest}
-use Rattle.sp_forest.proofs.OneForest.{forest_nearest}
-use Rattle.sp_forest.proofs.Chains.{root_only, forest_has_roots, part_has_roots}
-use Rattle.sp_forest.proofs.RootSteps.{root_back}
+use Rattle.sp_paths.proofs.Core.{cases_word, not_both, pair_dist, pair_pred, closed_shows_within}
+use Rattle.sp_paths.proofs.Least.{any_decided, nearest_below, nearest_exists}
+use Rattle.sp_paths.specs.Forests.{HasWalkFromAny, HasWalkFromAnyBy, IsNearest, IsForestWord, IsForest, IsNear, IsForestWithin, IsFar, IsLawful, IsTableFrom, IsClosedTable}
+use Rattle.sp_paths.specs.Roots.{LeadsBack}
+use Rattle.sp_paths.specs.ForestLaws.{HasRoots, ShowsWithin}
+use Rattle.sp_answer.specs.Nearest.{IsRootAt}
+use Rattle.sp_paths.proofs.ForestWalks.{is_source, any_none, any_more, any_by, nearest_same}
+use Rattle.sp_paths.proofs.Finished.{finished_is_forest}
+use Rattle.sp_paths.proofs.OneForest.{forest_nearest}
+use Rattle.sp_paths.proofs.Chains.{root_only, forest_has_roots, part_has_roots}
+use Rattle.sp_answer.proofs.RootSteps.{root_back}
 use Rattle.sp_cert.specs.declared.rule.Rule.{Rule}
 use Rattle.sp_cert.specs.declared.rule.Rule.TheVariants.{Size, OwnSource, NoLesserOffer, NamesPredecessor, OnlyTooFar, BeyondLimit, OtherRoot}
-use Rattle.sp_cert.specs.declared.sources.Sources.{Sources}
+use Rattle.sp_cert.specs.declared.sources.SourceRule.{SourceRule}
 use Rattle.sp_cert.specs.Claims.{Claim, IsSource, IsUpTo, IsAbove}
 use Rattle.sp_cert.specs.Rules.{IsExplained, HasForeignRoot, HasOtherRoot, Breaks, Fails, Passes}
 
@@ -32,7 +30,7 @@ use Rattle.sp_cert.specs.Rules.{IsExplained, HasForeignRoot, HasOtherRoot, Break
 abbrev pub Roots : Type 0
 Roots = Option (ℕ → Option ℕ)
 
-abbrev pub claim : Sources → (limit : Option ℕ) → Table → Roots → Claim
+abbrev pub claim : SourceRule → (limit : Option ℕ) → Table → Roots → Claim
 claim sources limit words roots = record { sources = sources; limit = limit; words = words; roots = roots }
 
 abbrev IsOwnRoot : Roots → (v : ℕ) → Type 0
@@ -44,7 +42,7 @@ IsSameRoot None v p = Unit {0}
 IsSameRoot (Some roots) v p = roots v ≡ roots p
 
 -- a rule that doesn't fail, as a fact to use
-abbrev Holds : Graph → (max : ℕ) → Sources → (limit : Option ℕ) → Table → Roots → (v : ℕ) → Rule → Type 0
+abbrev Holds : Graph → (max : ℕ) → SourceRule → (limit : Option ℕ) → Table → Roots → (v : ℕ) → Rule → Type 0
 Holds g max sources limit words roots v Size = Unit {0}
 Holds g max sources limit words roots v OwnSource = IsSource sources words v → (words v ≡ Pair 0 0) × IsOwnRoot roots v
 Holds g max sources limit words roots v NoLesserOffer = (u l d p : ℕ) → HasArc g u v l → words u ≡ Pair d p → d + l ≤ max → IsUpTo limit (d + l) → IsAtMost (words v) (d + l) u
@@ -53,7 +51,7 @@ Holds g max sources limit words roots v OnlyTooFar = limit ≡ None → words v 
 Holds g max sources limit words roots v BeyondLimit = (d p : ℕ) → words v ≡ Pair d p → IsUpTo limit d
 Holds g max sources limit words roots v OtherRoot = (d p : ℕ) → words v ≡ Pair d p → (IsSource sources words v → ⊥) → IsSameRoot roots v p
 
-abbrev AllHold : Graph → (max : ℕ) → Sources → (limit : Option ℕ) → Table → Roots → Type 0
+abbrev AllHold : Graph → (max : ℕ) → SourceRule → (limit : Option ℕ) → Table → Roots → Type 0
 AllHold g max sources limit words roots = (v : ℕ) → IsVertex g.n v → (rule : Rule) → Holds g max sources limit words roots v rule
 
 word_decided : (w : Word) (d p : ℕ) → (w ≡ Pair d p) ⊎ (w ≡ Pair d p → ⊥)
@@ -133,7 +131,7 @@ not_above None d low high = high
 not_above (Some limit) d low high = absurd (omega arith)
 
 -- a rule that doesn't fail holds: each can be decided
-module _ (g : Graph) (max : ℕ) (sources : Sources) (limit : Option ℕ) (words : Table) (roots : Roots) (v : ℕ) where
+module _ (g : Graph) (max : ℕ) (sources : SourceRule) (limit : Option ℕ) (words : Table) (roots : Roots) (v : ℕ) where
   abbrev Broken : Rule → Type 0
   Broken rule = Breaks g max (claim sources limit words roots) v rule
 
@@ -253,7 +251,7 @@ part_near g gr ss limit words f v d p at is = go (nearest_below g gr ss v (suc l
         (word, omega arith)
     go (inr none) = absurd (not_both (words v) d p is (f.others v at (λ n. none n.0 (omega (arith, n.2)) n.1.walk)))
 
-module _ (g : Graph) (gr : IsGraph g) (max : ℕ) (sources : Sources) (words : Table) (ss : List ℕ) (in' : All (IsVertex g.n) ss) (same : (v : ℕ) → IsVertex g.n v → IsSource sources words v ↔ Contains ss v) where
+module _ (g : Graph) (gr : IsGraph g) (max : ℕ) (sources : SourceRule) (words : Table) (ss : List ℕ) (in' : All (IsVertex g.n) ss) (same : (v : ℕ) → IsVertex g.n v → IsSource sources words v ↔ Contains ss v) where
   no_source : (v : ℕ) → IsVertex g.n v → (Contains ss v → ⊥) → IsSource sources words v → ⊥
   no_source v h other source = other ((same v h).0 source)
 

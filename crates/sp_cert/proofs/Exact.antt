@@ -6,14 +6,14 @@ use Rattle.std.proofs.lemmas.List.{get_or_default}
 use Rattle.sp_word.specs.Word.{max_dist}
 use Rattle.sp_word.specs.History.{Table}
 use Rattle.sp_paths.specs.Paths.{Graph, IsVertex, IsBeyond}
-use Rattle.sp_forest.specs.Forests.{IsBeyond as IsBeyondAll}
-use Rattle.sp_forest.specs.ForestTable.{ForestTable, IsForestTable, table_of, root_of}
-use Rattle.sp_forest.specs.Nearest.{IsForestUpTo}
-use Rattle.sp_forest.specs.Laws.{OneSource}
-use Rattle.sp_forest.proofs.Walks.{contains_first, contains_front}
-use Rattle.sp_forest.proofs.OneForest.{forest_of_one_is_tree}
+use Rattle.sp_paths.specs.Forests.{IsBeyond as IsBeyondAll}
+use Rattle.sp_answer.specs.ForestTable.{ForestTable, IsForestTable, table_of, root_of}
+use Rattle.sp_answer.specs.Nearest.{IsForestUpTo}
+use Rattle.sp_paths.specs.ForestLaws.{OneSource}
+use Rattle.sp_paths.proofs.ForestWalks.{contains_first, contains_front}
+use Rattle.sp_paths.proofs.OneForest.{forest_of_one_is_tree}
 use Rattle.sp_cert.specs.declared.rule.Rule.TheVariants.{Size}
-use Rattle.sp_cert.specs.declared.sources.Sources.TheVariants.{One, WithoutPred}
+use Rattle.sp_cert.specs.declared.sources.SourceRule.TheVariants.{One, WithoutPred}
 use Rattle.sp_cert.specs.Claims.{tree_claim, claim_of_forest, sources_in}
 use Rattle.sp_cert.specs.Rules.{Passes, IsTreeOf, RulesAreExact, IsPartOfTree, PartRulesAreExact, IsCounted, IsForestOf, ForestRulesAreExact}
 use Rattle.sp_cert.proofs.Checker.{IsRight, IsBounded, rules_right, right_rules}

@@ -8,10 +8,10 @@ use Rattle.sp_word.specs.Word.{Word, Unreached, Pair, max_dist, pred_of}
 use Rattle.sp_paths.specs.Paths.{IsVertex, IsWithin, word_at}
 use Rattle.sp_paths.proofs.Core.{pair_pred}
 use Rattle.sp_answer.specs.Table.{IsPairWithin, HasPredWithin}
-use Rattle.sp_forest.specs.ForestTable.{Row, ForestTable, IsForestTable, AreRows, row_in, word_of, root_in, table_of, root_of}
+use Rattle.sp_answer.specs.ForestTable.{Row, ForestTable, IsForestTable, AreRows, row_in, word_of, root_in, table_of, root_of}
 use Rattle.sp_cert.specs.declared.rule.Rule.{Rule}
 use Rattle.sp_cert.specs.declared.rule.Rule.TheVariants.{Size, OwnSource, NoLesserOffer, NamesPredecessor, OnlyTooFar, BeyondLimit, OtherRoot}
-use Rattle.sp_cert.specs.declared.fault.Fault.{Fault}
+use Rattle.sp_cert.specs.declared.fault.BrokenRule.{BrokenRule}
 use Rattle.sp_cert.specs.Rules.{number_of}
 use Rattle.sp_cert.specs.Faults.{IsFirstOf, IsBroken, BreaksRoot, FaultAt, FaultOfVertex}
 use Rattle.sp_cert.proofs.FirstSteps.{OfAny, first_same}
@@ -190,7 +190,7 @@ module _ (P : ℕ) (f : ForestTable) (table : IsForestTable P f) where
   to_row v BeyondLimit (k, b) = absurd b
   to_row v OtherRoot (k, (d, p, e, other, b)) = with_pair v d p OtherRoot e (d, p, e, other, b)
 
-  pub first_of_rows : (r : Option Fault) → IsFirstOf (OfAny OfRow f.rows) r → IsFirstOf (FaultOfVertex f.n Roots) r
+  pub first_of_rows : (r : Option BrokenRule) → IsFirstOf (OfAny OfRow f.rows) r → IsFirstOf (FaultOfVertex f.n Roots) r
   first_of_rows r h = first_same (OfAny OfRow f.rows) (FaultOfVertex f.n Roots) of_row to_row r h
 
 -- the rule that a row breaks by its root

@@ -13,13 +13,12 @@ use Rattle.sp_word.specs.History.{Table}
 use Rattle.sp_paths.specs.Paths.{Graph, HasArc}
 use Rattle.sp_paths.specs.Rows.{row_of}
 use Rattle.sp_paths.proofs.RowSteps.{kept}
-use Rattle.sp_paths.proofs.Core.{pair_dist, pair_pred}
+use Rattle.sp_paths.proofs.Core.{not_both, pair_dist, pair_pred}
 use Rattle.sp_paths.proofs.RowSteps.{rows_hold_arcs}
-use Rattle.sp_paths.proofs.Run.{not_both}
 use Rattle.sp_graph.specs.Order.{IsNoGreater, IsInOrder}
 use Rattle.sp_cert.specs.declared.rule.Rule.{Rule}
 use Rattle.sp_cert.specs.declared.rule.Rule.TheVariants.{Size, OwnSource, NoLesserOffer, NamesPredecessor, OnlyTooFar, BeyondLimit, OtherRoot}
-use Rattle.sp_cert.specs.declared.sources.Sources.{Sources}
+use Rattle.sp_cert.specs.declared.sources.SourceRule.{SourceRule}
 use Rattle.sp_cert.specs.Claims.{IsSource, IsUpTo, IsAbove}
 use Rattle.sp_cert.specs.Rules.{IsExplained, number_of}
 use Rattle.sp_cert.specs.Faults.{IsNoFurther, IsRow, HasArcTo, BreaksAt, IsBroken}
@@ -223,7 +222,7 @@ pair_of_both (Pair c q) d p e f = let a : c ≡ d = cc in let b : q ≡ p = cc i
 
 -- ## The rules that a vertex breaks
 
-module _ (g : Graph) (sources : Sources) (limit : Option ℕ) (words : Table) (v : ℕ) where
+module _ (g : Graph) (sources : SourceRule) (limit : Option ℕ) (words : Table) (v : ℕ) where
   abbrev At : Rule → Type 0
   At rule = BreaksAt g sources limit words v rule
 

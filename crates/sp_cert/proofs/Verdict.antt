@@ -7,12 +7,12 @@ use Rattle.sp_paths.specs.declared.arc.Arc.{Arc}
 use Rattle.sp_paths.specs.Paths.{Graph, IsGraph, IsVertex, HasArc, word_at}
 use Rattle.sp_paths.proofs.Walks.{arc_in}
 use Rattle.sp_answer.specs.Table.{TreeTable, IsTable, table_of as table_of_tree}
-use Rattle.sp_forest.specs.ForestTable.{ForestTable, table_of, root_of}
+use Rattle.sp_answer.specs.ForestTable.{ForestTable, table_of, root_of}
 use Rattle.sp_cert.specs.declared.rule.Rule.{Rule}
 use Rattle.sp_cert.specs.declared.rule.Rule.TheVariants.{Size, OwnSource, NoLesserOffer, NamesPredecessor, OnlyTooFar, BeyondLimit, OtherRoot}
-use Rattle.sp_cert.specs.declared.fault.Fault.{Fault}
-use Rattle.sp_cert.specs.declared.sources.Sources.{Sources}
-use Rattle.sp_cert.specs.declared.sources.Sources.TheVariants.{One, WithoutPred}
+use Rattle.sp_cert.specs.declared.fault.BrokenRule.{BrokenRule}
+use Rattle.sp_cert.specs.declared.sources.SourceRule.{SourceRule}
+use Rattle.sp_cert.specs.declared.sources.SourceRule.TheVariants.{One, WithoutPred}
 use Rattle.sp_cert.specs.Claims.{Claim, claim_of_tree, claim_of_forest, IsSource}
 use Rattle.sp_cert.specs.Rules.{IsExplained, Breaks, Fails, Passes, IsCounted, NoLater}
 use Rattle.sp_cert.specs.Faults.{IsFirstOf, earlier_of, BreaksAt, BreaksRoot, FaultOfArc, FaultOfVertex, FaultOfWords}
@@ -27,7 +27,7 @@ use Rattle.sp_cert.proofs.Exact.{rules_are_exact, part_rules_are_exact}
 -- ## Words
 
 -- every fault of words without roots is an arc's or a vertex's
-module _ (g : Graph) (gr : IsGraph g) (max : ℕ) (sources : Sources) (limit : Option ℕ) (words : Table) where
+module _ (g : Graph) (gr : IsGraph g) (max : ℕ) (sources : SourceRule) (limit : Option ℕ) (words : Table) where
   abbrev Words : ℕ → Rule → Type 0
   Words v rule = FaultOfWords g max sources limit words v rule
 
@@ -119,12 +119,12 @@ module _ (g : Graph) (max : ℕ) (sized : Type 0) (c : Claim) (size : sized) whe
   of_fails v OtherRoot f = (f.0, f.2)
 
 -- tables that agree at the vertices of the graph break the same rules
-module _ (g : Graph) (gr : IsGraph g) (max : ℕ) (sources : Sources) (limit : Option ℕ) (a b : Table) (same : (v : ℕ) → IsVertex g.n v → a v ≡ b v) where
-  source_same : (sources : Sources) (v : ℕ) → IsVertex g.n v → IsSource sources a v → IsSource sources b v
+module _ (g : Graph) (gr : IsGraph g) (max : ℕ) (sources : SourceRule) (limit : Option ℕ) (a b : Table) (same : (v : ℕ) → IsVertex g.n v → a v ≡ b v) where
+  source_same : (sources : SourceRule) (v : ℕ) → IsVertex g.n v → IsSource sources a v → IsSource sources b v
   source_same (One s) v k is = is
   source_same WithoutPred v k (d, is) = (d, sym (same v k) ∙ is)
 
-  source_back : (sources : Sources) (v : ℕ) → IsVertex g.n v → IsSource sources b v → IsSource sources a v
+  source_back : (sources : SourceRule) (v : ℕ) → IsVertex g.n v → IsSource sources b v → IsSource sources a v
   source_back (One s) v k is = is
   source_back WithoutPred v k (d, is) = (d, same v k ∙ is)
 
@@ -157,12 +157,12 @@ module _ (g : Graph) (gr : IsGraph g) (max : ℕ) (sources : Sources) (limit : O
   words_same v rule (inl h) = inl (arc_same v rule h)
   words_same v rule (inr h) = inr (h.0, at_same v rule h.0 h.1)
 
-first_same_words : (g : Graph) → IsGraph g → (max : ℕ) (sources : Sources) (limit : Option ℕ) (a b : Table) → ((v : ℕ) → IsVertex g.n v → a v ≡ b v) → (r : Option Fault) → IsFirstOf (FaultOfWords g max sources limit a) r → IsFirstOf (FaultOfWords g max sources limit b) r
+first_same_words : (g : Graph) → IsGraph g → (max : ℕ) (sources : SourceRule) (limit : Option ℕ) (a b : Table) → ((v : ℕ) → IsVertex g.n v → a v ≡ b v) → (r : Option BrokenRule) → IsFirstOf (FaultOfWords g max sources limit a) r → IsFirstOf (FaultOfWords g max sources limit b) r
 first_same_words g gr max sources limit a b same r h =
     first_same (FaultOfWords g max sources limit a) (FaultOfWords g max sources limit b) (words_same g gr max sources limit a b same) (words_same g gr max sources limit b a (λ v k. sym (same v k))) r h
 
 -- the earliest fault of the tree is that of its words by vertex
-pub tree_first : (P : ℕ) (t : TreeTable) (limit : Option ℕ) (g : Graph) (words : List Word) (source : ℕ) (r : Option Fault) → IsGraph g → t.n ≡ g.n → source ≡ t.source
+pub tree_first : (P : ℕ) (t : TreeTable) (limit : Option ℕ) (g : Graph) (words : List Word) (source : ℕ) (r : Option BrokenRule) → IsGraph g → t.n ≡ g.n → source ≡ t.source
     → ((v : ℕ) → IsVertex t.n v → word_at words v ≡ table_of_tree t v)
     → IsFirstOf (FaultOfWords g (max_dist P) (One source) limit (word_at words)) r → IsFirstOf (FailsOfTree P limit g t) r
 tree_first P t limit g words source r gr size same copied first =
@@ -176,7 +176,7 @@ tree_first P t limit g words source r gr size same copied first =
     (λ v rule f. parted g gr (max_dist P) (One t.source) limit table v rule (of_fails g (max_dist P) (t.n ≡ g.n) c size v rule f)) r all
 
 -- the earliest fault of a forest is that of its words and its roots
-pub forest_first : (P : ℕ) (f : ForestTable) (limit : Option ℕ) (g : Graph) (words : List Word) (a b r : Option Fault) → IsGraph g → f.n ≡ g.n
+pub forest_first : (P : ℕ) (f : ForestTable) (limit : Option ℕ) (g : Graph) (words : List Word) (a b r : Option BrokenRule) → IsGraph g → f.n ≡ g.n
     → ((v : ℕ) → IsVertex f.n v → word_at words v ≡ table_of f v)
     → IsFirstOf (FaultOfWords g (max_dist P) WithoutPred limit (word_at words)) a → IsFirstOf (FaultOfVertex f.n (BreaksRoot (table_of f) (root_of f))) b → r ≡ earlier_of a b
     → (count : ℕ) → IsCounted g f count → IsFirstOf (FailsOfForest P count limit g f) r
@@ -206,7 +206,7 @@ wrong_first g max sized c wrong = ((refl, wrong), least)
 
 -- ## What the earliest fault says
 
-pub answered : (F : ℕ → Rule → Type 0) (first : Option Fault) (result : Result (Unit {0}) CheckError) → IsFirstOf F first → result ≡ answer_of first → IsAnswer F result
+pub answered : (F : ℕ → Rule → Type 0) (first : Option BrokenRule) (result : Result (Unit {0}) CheckError) → IsFirstOf F first → result ≡ answer_of first → IsAnswer F result
 answered F None result h e = subst (IsAnswer F) (sym e) h
 answered F (Some f) result h e = subst (IsAnswer F) (sym e) h
 

@@ -7,7 +7,7 @@ use Rattle.rayon.specs.Numbers.{nat_range}
 use Rattle.rayon.proofs.ToStd.{nat_range-All}
 use Rattle.sp_paths.specs.Paths.{IsVertex}
 use Rattle.sp_cert.specs.declared.rule.Rule.{Rule}
-use Rattle.sp_cert.specs.declared.fault.Fault.{Fault}
+use Rattle.sp_cert.specs.declared.fault.BrokenRule.{BrokenRule}
 use Rattle.sp_cert.specs.Faults.{IsFirstOf, FaultAt, FaultOfVertex}
 use Rattle.sp_cert.proofs.FirstSteps.{OfAny, first_same}
 
@@ -32,5 +32,5 @@ module _ (n : ℕ) (P : ℕ → Rule → Type 0) where
   back : (v : ℕ) (rule : Rule) → FaultOfVertex n P v rule → OfAny (FaultAt P) (numbers n) v rule
   back v rule (in', b) = (v, among_numbers n v in', (refl, b))
 
-  pub first_of_numbers : (r : Option Fault) → IsFirstOf (OfAny (FaultAt P) (numbers n)) r → IsFirstOf (FaultOfVertex n P) r
+  pub first_of_numbers : (r : Option BrokenRule) → IsFirstOf (OfAny (FaultAt P) (numbers n)) r → IsFirstOf (FaultOfVertex n P) r
   first_of_numbers r h = first_same (OfAny (FaultAt P) (numbers n)) (FaultOfVertex n P) there back r h

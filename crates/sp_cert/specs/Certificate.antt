@@ -3,10 +3,10 @@ use Rattle.std.specs.Prelude.{◌≡◌, ℕ, Option, Some, None, Result, Ok, Er
 use Rattle.sp_word.specs.Word.{max_dist}
 use Rattle.sp_paths.specs.Paths.{Graph}
 use Rattle.sp_answer.specs.Table.{TreeTable, table_of}
-use Rattle.sp_forest.specs.ForestTable.{ForestTable}
+use Rattle.sp_answer.specs.ForestTable.{ForestTable}
 use Rattle.sp_cert.specs.declared.rule.Rule.{Rule}
 use Rattle.sp_cert.specs.declared.rule.Rule.TheVariants.{Size}
-use Rattle.sp_cert.specs.declared.fault.Fault.{Fault as Failure}
+use Rattle.sp_cert.specs.declared.fault.BrokenRule.{BrokenRule as Failure}
 use Rattle.sp_cert.specs.declared.checking.CheckError.{CheckError}
 use Rattle.sp_cert.specs.declared.checking.CheckError.TheVariants.{Fault, Memory}
 use Rattle.sp_cert.specs.Claims.{Claim, claim_of_tree, claim_of_forest}

@@ -4,13 +4,13 @@ use Rattle.sp_word.specs.Word.{Word, Unreached, Pair}
 use Rattle.sp_word.specs.History.{Table}
 use Rattle.sp_answer.specs.Table.{TreeTable}
 use Rattle.sp_answer.specs.Table.{table_of as table_of_tree}
-use Rattle.sp_forest.specs.ForestTable.{Row, ForestTable, table_of, root_of}
-use Rattle.sp_cert.specs.declared.sources.Sources.{Sources}
-use Rattle.sp_cert.specs.declared.sources.Sources.TheVariants.{One, WithoutPred}
+use Rattle.sp_answer.specs.ForestTable.{Row, ForestTable, table_of, root_of}
+use Rattle.sp_cert.specs.declared.sources.SourceRule.{SourceRule}
+use Rattle.sp_cert.specs.declared.sources.SourceRule.TheVariants.{One, WithoutPred}
 
 -- A claim has the sources, the limit if there is one, the word of each vertex, and its root if roots are given.
 pub record Claim : Type 0 where
-  pub sources : Sources
+  pub sources : SourceRule
   pub limit : Option ℕ
   pub words : Table
   pub roots : Option (ℕ → Option ℕ)
@@ -28,7 +28,7 @@ abbrev pub claim_of_forest : ForestTable → (limit : Option ℕ) → Claim
 claim_of_forest f limit = record { sources = WithoutPred; limit = limit; words = table_of f; roots = Some (root_of f) }
 
 -- The vertex v is a source: the named one, or in a forest a reached one that has predecessor 0.
-abbrev pub IsSource : Sources → Table → (v : ℕ) → Type 0
+abbrev pub IsSource : SourceRule → Table → (v : ℕ) → Type 0
 IsSource (One s) words v = v ≡ s
 IsSource WithoutPred words v = (d : ℕ) × (words v ≡ Pair d 0)
 

@@ -6,23 +6,23 @@ use Rattle.sp_paths.specs.declared.arc.Arc.{Arc}
 use Rattle.sp_paths.specs.Paths.{Graph, IsVertex}
 use Rattle.sp_cert.specs.declared.rule.Rule.{Rule}
 use Rattle.sp_cert.specs.declared.rule.Rule.TheVariants.{Size, OwnSource, NoLesserOffer, NamesPredecessor, OnlyTooFar, BeyondLimit, OtherRoot}
-use Rattle.sp_cert.specs.declared.fault.Fault.{Fault}
-use Rattle.sp_cert.specs.declared.sources.Sources.{Sources}
-use Rattle.sp_cert.specs.declared.sources.Sources.TheVariants.{WithoutPred}
+use Rattle.sp_cert.specs.declared.fault.BrokenRule.{BrokenRule}
+use Rattle.sp_cert.specs.declared.sources.SourceRule.{SourceRule}
+use Rattle.sp_cert.specs.declared.sources.SourceRule.TheVariants.{WithoutPred}
 use Rattle.sp_cert.specs.Claims.{IsSource, IsUpTo, IsAbove}
 use Rattle.sp_cert.specs.Rules.{number_of, IsExplained, NoLater}
 
 -- This is the earliest of the faults with the property, or none.
-abbrev pub IsFirstOf : (ℕ → Rule → Type 0) → Option Fault → Type 0
+abbrev pub IsFirstOf : (ℕ → Rule → Type 0) → Option BrokenRule → Type 0
 IsFirstOf P None = (v : ℕ) → (rule : Rule) → P v rule → ⊥
 IsFirstOf P (Some f) = P f.vertex f.rule × ((w : ℕ) → (other : Rule) → P w other → NoLater f.vertex f.rule w other)
 
 -- The second fault comes before the first.
-abbrev pub is_later : Fault → Fault → Bool
+abbrev pub is_later : BrokenRule → BrokenRule → Bool
 is_later f g = nat_lt g.vertex f.vertex || ((g.vertex == f.vertex) && nat_lt (number_of g.rule) (number_of f.rule))
 
 -- This is the earlier of two faults, each of which may be missing.
-abbrev pub earlier_of : Option Fault → Option Fault → Option Fault
+abbrev pub earlier_of : Option BrokenRule → Option BrokenRule → Option BrokenRule
 earlier_of None b = b
 earlier_of (Some f) None = Some f
 earlier_of (Some f) (Some g) = if is_later f g then Some g else Some f
@@ -40,7 +40,7 @@ abbrev pub HasArcTo : List Arc → (head len : ℕ) → Type 0
 HasArcTo arcs head len = (arc : Arc) × Contains arcs arc × (arc.head ≡ head) × (arc.len ≡ len)
 
 -- These are the rules that a vertex breaks by its own word.
-abbrev pub BreaksAt : Graph → Sources → (limit : Option ℕ) → Table → (v : ℕ) → Rule → Type 0
+abbrev pub BreaksAt : Graph → SourceRule → (limit : Option ℕ) → Table → (v : ℕ) → Rule → Type 0
 BreaksAt g sources limit words v Size = ⊥
 BreaksAt g sources limit words v OwnSource = IsSource sources words v × (words v ≢ Pair 0 0)
 BreaksAt g sources limit words v NoLesserOffer = ⊥
@@ -91,5 +91,5 @@ abbrev pub FaultOfArc : (max : ℕ) → (limit : Option ℕ) → Table → List 
 FaultOfArc max limit words arcs v rule = (arc : Arc) × Contains arcs arc × FaultBy max limit words arc v rule
 
 -- These are all faults of words, except those of roots.
-abbrev pub FaultOfWords : Graph → (max : ℕ) → Sources → (limit : Option ℕ) → Table → (v : ℕ) → Rule → Type 0
+abbrev pub FaultOfWords : Graph → (max : ℕ) → SourceRule → (limit : Option ℕ) → Table → (v : ℕ) → Rule → Type 0
 FaultOfWords g max sources limit words v rule = FaultOfArc max limit words g.arcs v rule ⊎ FaultOfVertex g.n (BreaksAt g sources limit words) v rule

@@ -3,8 +3,8 @@ use Rattle.std.specs.Prelude.{◌≡◌, ◌≢◌, ℕ, ◌+◌, ◌<◌, ◌�
 use Rattle.sp_word.specs.Word.{Unreached, Pair, IsBelow, max_dist}
 use Rattle.sp_word.specs.History.{Table}
 use Rattle.sp_paths.specs.Paths.{Graph, IsGraph, IsVertex, HasArc, IsTree, IsFar, EndsInTree, IsWithin}
-use Rattle.sp_forest.specs.ForestTable.{ForestTable, IsForestTable, table_of}
-use Rattle.sp_forest.specs.Nearest.{IsForestUpTo, HasRoots}
+use Rattle.sp_answer.specs.ForestTable.{ForestTable, IsForestTable, table_of}
+use Rattle.sp_answer.specs.Nearest.{IsForestUpTo, HasRoots}
 use Rattle.sp_cert.specs.declared.rule.Rule.{Rule}
 use Rattle.sp_cert.specs.declared.rule.Rule.TheVariants.{Size, OwnSource, NoLesserOffer, NamesPredecessor, OnlyTooFar, BeyondLimit, OtherRoot}
 use Rattle.sp_cert.specs.Claims.{Claim, tree_claim, claim_of_forest, IsSource, IsUpTo, IsAbove, sources_in}

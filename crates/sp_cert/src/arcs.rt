@@ -5,7 +5,7 @@ ghost use Rattle.sp_paths.specs.Paths.{IsArc, word_at};
 ghost use Rattle.sp_cert.specs.Claims.{IsInReach};
 ghost use Rattle.sp_cert.specs.Faults.{IsFirstOf, IsBroken, BreaksBy, FaultBy, FaultOfArc, earlier_of};
 
-use crate::fault::{Fault, earlier};
+use crate::fault::{BrokenRule, earlier};
 use crate::rule::Rule;
 use rayon::prelude::*;
 use sp_graph::look_up;
@@ -41,7 +41,7 @@ fn broken_by<const P: u32>(words: &[Word<P>], limit: Option<u64>, arc: Arc) -> O
 }
 
 // Returns the fault that the arc shows, if any.
-fn fault_by<const P: u32>(words: &[Word<P>], limit: Option<u64>, arc: Arc) -> Option<Fault>
+fn fault_by<const P: u32>(words: &[Word<P>], limit: Option<u64>, arc: Arc) -> Option<BrokenRule>
     requires layout { is_layout P ≡ true }
     requires most { length words.now ≤ max_pred P }
     requires arc { IsArc (length words.now) arc }
@@ -49,7 +49,7 @@ fn fault_by<const P: u32>(words: &[Word<P>], limit: Option<u64>, arc: Arc) -> Op
         (FaultBy (max_dist P) limit (word_at words.now) arc) result }
 {
     match broken_by(words, limit, arc) {
-        Some(rule) => Some(Fault {
+        Some(rule) => Some(BrokenRule {
             vertex: arc.head,
             rule,
         }),
@@ -63,7 +63,7 @@ pub fn first_of_arcs<const P: u32, R: Threads + Sync>(
     words: &[Word<P>],
     limit: Option<u64>,
     arcs: &[Arc],
-) -> Option<Fault>
+) -> Option<BrokenRule>
     requires layout { is_layout P ≡ true }
     requires most { length words.now ≤ max_pred P }
     requires arcs { All (IsArc (length words.now)) arcs.now }
@@ -71,7 +71,7 @@ pub fn first_of_arcs<const P: u32, R: Threads + Sync>(
 {
     arcs.par_iter()
         .map(
-            |arc: &Arc| -> Option<Fault>
+            |arc: &Arc| -> Option<BrokenRule>
                 requires { (is_layout P ≡ true) × (length words.now ≤ max_pred P)
                     × IsArc (length words.now) arc.now }
                 ensures { IsFirstOf
@@ -80,10 +80,10 @@ pub fn first_of_arcs<const P: u32, R: Threads + Sync>(
         )
         .reduce(
             rt,
-            || -> Option<Fault>
+            || -> Option<BrokenRule>
                 ensures { result ≡ None }
             { None },
-            |first: Option<Fault>, second: Option<Fault>| -> Option<Fault>
+            |first: Option<BrokenRule>, second: Option<BrokenRule>| -> Option<BrokenRule>
                 ensures { result ≡ earlier_of first second }
             { earlier(first, second) },
         )

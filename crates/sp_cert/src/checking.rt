@@ -3,21 +3,20 @@ ghost use Rattle.std.specs.Prelude.{◌≡◌, ◌≤◌, ◌↔◌, true, lengt
 ghost use Rattle.sp_word.specs.Word.{is_layout, max_dist, max_pred};
 ghost use Rattle.sp_paths.specs.Paths.{IsGraph, word_at};
 ghost use Rattle.sp_answer.specs.Table.{IsTable};
-ghost use Rattle.sp_forest.specs.ForestTable.{IsForestTable};
+ghost use Rattle.sp_answer.specs.ForestTable.{IsForestTable};
 ghost use Rattle.sp_cert.specs.Rules.{IsForestOf, IsCounted};
 ghost use Rattle.sp_cert.specs.Faults.{IsFirstOf, FaultOfWords};
 ghost use Rattle.sp_cert.specs.Certificate.{IsCertified, IsCertifiedWithin, TellsFault, TellsFaultUpTo, TellsForestFault, FailsOfTree, FailsOfForest, answer_of, wrong_size};
 ghost use Rattle.sp_cert.specs.declared.checking.CheckError.TheVariants.{Memory};
 
 use crate::arcs::first_of_arcs;
-use crate::fault::{Fault, earlier};
+use crate::fault::{BrokenRule, earlier};
 use crate::forests::{count_of_sources, first_of_roots, words_of_forest};
 use crate::rule::Rule;
-use crate::sources::Sources;
+use crate::sources::SourceRule;
 use crate::vertices::first_of_vertices;
-use crate::words::words_of;
-use sp_answer::Tree;
-use sp_forest::Forest;
+use crate::words_of_tree::words_of;
+use sp_answer::{Forest, Tree};
 use sp_graph::Graph;
 use sp_word::Word;
 use std::alloc::{AllocError, Global};
@@ -48,9 +47,9 @@ fn first_of_words<const P: u32, R: Threads + Sync>(
     rt: &R,
     graph: &Graph,
     words: &[Word<P>],
-    sources: Sources,
+    sources: SourceRule,
     limit: Option<u64>,
-) -> Option<Fault>
+) -> Option<BrokenRule>
     requires layout { is_layout P ≡ true }
     requires size { length words.now ≡ graph.now.n }
     requires most { graph.now.n ≤ max_pred P }
@@ -63,10 +62,10 @@ fn first_of_words<const P: u32, R: Threads + Sync>(
 }
 
 // Returns the fault of wrong sizes.
-fn wrong_size() -> Option<Fault>
+fn wrong_size() -> Option<BrokenRule>
     ensures { result ≡ wrong_size }
 {
-    Some(Fault {
+    Some(BrokenRule {
         vertex: 0,
         rule: Rule::Size,
     })
@@ -79,7 +78,7 @@ fn first_of_tree<const P: u32, R: Threads + Sync>(
     graph: &Graph,
     tree: &Tree<P>,
     limit: Option<u64>,
-) -> Result<Option<Fault>, AllocError>
+) -> Result<Option<BrokenRule>, AllocError>
     ensures first { IfOk result (IsFirstOf (FailsOfTree P limit graph.now tree.now)) }
     ensures graph { IsGraph graph.now }
     ensures table { IsTable P tree.now }
@@ -87,7 +86,7 @@ fn first_of_tree<const P: u32, R: Threads + Sync>(
     if tree.n() != graph.n() {
         return Ok(wrong_size());
     }
-    let source = Sources::One(tree.source());
+    let source = SourceRule::One(tree.source());
     let words = words_of(alloc, tree)?;
     Ok(first_of_words(rt, graph, &words, source, limit))
 }
@@ -109,7 +108,7 @@ fn first_of_forest<const P: u32, R: Threads + Sync>(
     forest: &Forest<P>,
     count: u32,
     limit: Option<u64>,
-) -> Result<Option<Fault>, AllocError>
+) -> Result<Option<BrokenRule>, AllocError>
     ensures first { IfOk result (IsFirstOf (FailsOfForest P count limit graph.now forest.now)) }
     ensures graph { IsGraph graph.now }
     ensures table { IsForestTable P forest.now }
@@ -118,17 +117,17 @@ fn first_of_forest<const P: u32, R: Threads + Sync>(
         return Ok(wrong_size());
     }
     let words = words_of_forest(alloc, forest)?;
-    let of_words = first_of_words(rt, graph, &words, Sources::WithoutPred, limit);
+    let of_words = first_of_words(rt, graph, &words, SourceRule::WithoutPred, limit);
     let of_roots = first_of_roots(rt, forest);
     Ok(earlier(of_words, of_roots))
 }
 
 // Returns the result of a check, given the earliest fault, if there is one.
-fn told(first: Option<Fault>) -> Result<(), CheckError>
+fn told(first: Option<BrokenRule>) -> Result<(), CheckError>
     ensures { result ≡ answer_of first }
 {
     match first {
-        Some(Fault { vertex, rule }) => Err(CheckError::Fault { vertex, rule }),
+        Some(BrokenRule { vertex, rule }) => Err(CheckError::Fault { vertex, rule }),
         None => Ok(()),
     }
 }

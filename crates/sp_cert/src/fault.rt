@@ -6,13 +6,13 @@ use crate::rule::Rule;
 
 /// A rule that fails at a vertex.
 #[derive(Clone, Copy)]
-pub struct Fault {
+pub struct BrokenRule {
     pub vertex: u32,
     pub rule: Rule,
 }
 
 // Returns whether the second fault comes before the first: by vertex, then by rule.
-fn comes_later(first: Fault, second: Fault) -> bool
+fn comes_later(first: BrokenRule, second: BrokenRule) -> bool
     ensures { result ≡ is_later first second }
 {
     second.vertex < first.vertex
@@ -20,7 +20,7 @@ fn comes_later(first: Fault, second: Fault) -> bool
 }
 
 /// Returns the earlier of two faults, each of which may be missing.
-pub fn earlier(first: Option<Fault>, second: Option<Fault>) -> Option<Fault>
+pub fn earlier(first: Option<BrokenRule>, second: Option<BrokenRule>) -> Option<BrokenRule>
     ensures { result ≡ earlier_of first second }
 {
     match (first, second) {

@@ -1,15 +1,15 @@
 //! The words and the sources of a forest, and the faults that its roots show.
 ghost use Rattle.std.specs.Prelude.{◌≡◌, ℕ, length, IfOk, All, Some, None};
 ghost use Rattle.sp_paths.specs.Paths.{IsVertex, word_at};
-ghost use Rattle.sp_forest.specs.ForestTable.{table_of, root_of};
+ghost use Rattle.sp_answer.specs.ForestTable.{table_of, root_of};
 ghost use Rattle.sp_cert.specs.Claims.{sources_in};
 ghost use Rattle.sp_cert.specs.Faults.{IsFirstOf, IsBroken, BreaksRoot, FaultAt, FaultOfVertex, earlier_of};
 ghost use Rattle.sp_cert.specs.ForestRows.{IsOwnRow};
 
-use crate::fault::{Fault, earlier};
+use crate::fault::{BrokenRule, earlier};
 use crate::rule::Rule;
 use rayon::prelude::*;
-use sp_forest::Forest;
+use sp_answer::Forest;
 use sp_word::Word;
 use std::alloc::{AllocError, Global};
 use std::thread::Threads;
@@ -67,20 +67,23 @@ fn broken_by_root<const P: u32>(forest: &Forest<P>, row: &(u32, Word<P>, u32)) -
 }
 
 // Returns the fault that a row's root shows, if any.
-fn fault_by_root<const P: u32>(forest: &Forest<P>, row: &(u32, Word<P>, u32)) -> Option<Fault>
+fn fault_by_root<const P: u32>(forest: &Forest<P>, row: &(u32, Word<P>, u32)) -> Option<BrokenRule>
     requires { IsOwnRow forest.now row.now }
     ensures { IsFirstOf
         (FaultAt (BreaksRoot (table_of forest.now) (root_of forest.now)) row.now.0) result }
 {
     let vertex = row.0;
     match broken_by_root(forest, row) {
-        Some(rule) => Some(Fault { vertex, rule }),
+        Some(rule) => Some(BrokenRule { vertex, rule }),
         None => None,
     }
 }
 
 /// Returns the earliest fault that the root of a vertex shows. The result doesn't depend on how the rows are split into pieces.
-pub fn first_of_roots<const P: u32, R: Threads + Sync>(rt: &R, forest: &Forest<P>) -> Option<Fault>
+pub fn first_of_roots<const P: u32, R: Threads + Sync>(
+    rt: &R,
+    forest: &Forest<P>,
+) -> Option<BrokenRule>
     ensures { IsFirstOf (FaultOfVertex forest.now.n
         (BreaksRoot (table_of forest.now) (root_of forest.now))) result }
 {
@@ -88,7 +91,7 @@ pub fn first_of_roots<const P: u32, R: Threads + Sync>(rt: &R, forest: &Forest<P
         .rows()
         .par_iter()
         .map(
-            |row: &(u32, Word<P>, u32)| -> Option<Fault>
+            |row: &(u32, Word<P>, u32)| -> Option<BrokenRule>
                 requires { IsOwnRow forest.now row.now }
                 ensures { IsFirstOf (FaultAt (BreaksRoot (table_of forest.entry.now)
                     (root_of forest.entry.now)) row.now.0) result }
@@ -96,10 +99,10 @@ pub fn first_of_roots<const P: u32, R: Threads + Sync>(rt: &R, forest: &Forest<P
         )
         .reduce(
             rt,
-            || -> Option<Fault>
+            || -> Option<BrokenRule>
                 ensures { result ≡ None }
             { None },
-            |first: Option<Fault>, second: Option<Fault>| -> Option<Fault>
+            |first: Option<BrokenRule>, second: Option<BrokenRule>| -> Option<BrokenRule>
                 ensures { result ≡ earlier_of first second }
             { earlier(first, second) },
         )

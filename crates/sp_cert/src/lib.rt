@@ -9,7 +9,7 @@ mod laws;
 mod rule;
 mod sources;
 mod vertices;
-mod words;
+mod words_of_tree;
 
 pub use checking::{CheckError, check, check_forest, check_within};
 pub use laws::{checked_forest, checked_table};

@@ -8,7 +8,7 @@ use sp_word::Word;
 
 /// Which vertices are sources.
 #[derive(Clone, Copy)]
-pub enum Sources {
+pub enum SourceRule {
     /// Only this vertex.
     One(u32),
     /// The reached vertices that have predecessor 0.
@@ -16,12 +16,12 @@ pub enum Sources {
 }
 
 /// Returns whether a vertex is a source.
-pub fn is_source<const P: u32>(sources: Sources, words: &[Word<P>], vertex: u32) -> bool
+pub fn is_source<const P: u32>(sources: SourceRule, words: &[Word<P>], vertex: u32) -> bool
     requires { IsVertex (length words.now) vertex }
     ensures { IsTrue result ↔ IsSource sources (word_at words.now) vertex }
 {
     match sources {
-        Sources::One(source) => vertex == source,
-        Sources::WithoutPred => look_up(words, vertex).pred() == Some(0),
+        SourceRule::One(source) => vertex == source,
+        SourceRule::WithoutPred => look_up(words, vertex).pred() == Some(0),
     }
 }

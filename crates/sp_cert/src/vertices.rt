@@ -7,9 +7,9 @@ ghost use Rattle.sp_cert.specs.Claims.{IsAbove};
 ghost use Rattle.sp_cert.specs.Rules.{IsExplained};
 ghost use Rattle.sp_cert.specs.Faults.{IsRow, HasArcTo, IsFirstOf, IsBroken, BreaksAt, FaultAt, FaultOfVertex, earlier_of};
 
-use crate::fault::{Fault, earlier};
+use crate::fault::{BrokenRule, earlier};
 use crate::rule::Rule;
-use crate::sources::{Sources, is_source};
+use crate::sources::{SourceRule, is_source};
 use rayon::prelude::*;
 use sp_graph::{Graph, look_up};
 use sp_paths::Arc;
@@ -60,7 +60,7 @@ fn is_above(limit: Option<u64>, dist: u64) -> bool
 fn broken_at<const P: u32>(
     graph: &Graph,
     words: &[Word<P>],
-    sources: Sources,
+    sources: SourceRule,
     limit: Option<u64>,
     vertex: u32,
 ) -> Option<Rule>
@@ -94,10 +94,10 @@ fn broken_at<const P: u32>(
 fn fault_at<const P: u32>(
     graph: &Graph,
     words: &[Word<P>],
-    sources: Sources,
+    sources: SourceRule,
     limit: Option<u64>,
     vertex: u32,
-) -> Option<Fault>
+) -> Option<BrokenRule>
     requires layout { is_layout P ≡ true }
     requires size { length words.now ≡ graph.now.n }
     requires order { IsInOrder graph.now.arcs }
@@ -106,7 +106,7 @@ fn fault_at<const P: u32>(
         (FaultAt (BreaksAt graph.now sources limit (word_at words.now)) vertex) result }
 {
     match broken_at(graph, words, sources, limit, vertex) {
-        Some(rule) => Some(Fault { vertex, rule }),
+        Some(rule) => Some(BrokenRule { vertex, rule }),
         None => None,
     }
 }
@@ -116,9 +116,9 @@ pub fn first_of_vertices<const P: u32, R: Threads + Sync>(
     rt: &R,
     graph: &Graph,
     words: &[Word<P>],
-    sources: Sources,
+    sources: SourceRule,
     limit: Option<u64>,
-) -> Option<Fault>
+) -> Option<BrokenRule>
     requires layout { is_layout P ≡ true }
     requires size { length words.now ≡ graph.now.n }
     requires order { IsInOrder graph.now.arcs }
@@ -128,7 +128,7 @@ pub fn first_of_vertices<const P: u32, R: Threads + Sync>(
     (1..=graph.n())
         .into_par_iter()
         .map(
-            |vertex: u32| -> Option<Fault>
+            |vertex: u32| -> Option<BrokenRule>
                 requires { (is_layout P ≡ true) × (length words.now ≡ graph.now.n)
                     × IsInOrder graph.now.arcs × IsVertex graph.now.n vertex }
                 ensures { IsFirstOf (FaultAt (BreaksAt graph.entry.now sources limit
@@ -137,10 +137,10 @@ pub fn first_of_vertices<const P: u32, R: Threads + Sync>(
         )
         .reduce(
             rt,
-            || -> Option<Fault>
+            || -> Option<BrokenRule>
                 ensures { result ≡ None }
             { None },
-            |first: Option<Fault>, second: Option<Fault>| -> Option<Fault>
+            |first: Option<BrokenRule>, second: Option<BrokenRule>| -> Option<BrokenRule>
                 ensures { result ≡ earlier_of first second }
             { earlier(first, second) },
         )

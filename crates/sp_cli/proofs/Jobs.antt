@@ -11,7 +11,7 @@ use Rattle.sp_jobs.specs.declared.answers.Summary.{Summary}
 use Rattle.sp_jobs.specs.declared.answers.BatchError.{BatchError}
 use Rattle.sp_jobs.specs.declared.answers.BatchError.TheVariants.{Gr, Ss, Targets, Pairs, NoSuchVertex, Memory, Write}
 use Rattle.sp_jobs.specs.declared.listing.Listing.{Listing}
-use Rattle.sp_jobs.specs.Listing.{Asked, AreAsked, AreRefused, HasLeft, MayRefuse, asked_in}
+use Rattle.sp_jobs.specs.Listing.{AskedList, AreAsked, AreRefused, HasLeft, MayRefuse, asked_in}
 use Rattle.sp_jobs.specs.Network.{IsGraphRefused}
 use Rattle.sp_jobs.specs.Answered.{JobDone, JobAnswered, JobOfSome, MayFail}
 use Rattle.sp_jobs.specs.Matrix.{IsMatrixTo, IsMatrixToSome}
@@ -26,7 +26,7 @@ use Rattle.sp_cli.specs.Commands.{paths_in}
 use Rattle.sp_cli.specs.Answers.{IsOfSources, IsOfSomeTexts, source_paths, MatrixAnswers, list_paths}
 
 -- What a device leaves of the text of a graph that is refused is something.
-in_scene : {G : Type 0} (s : Scene) (way : Direction) (P : ℕ) (job : JobDone) (gr_text : List ℕ) (asked : Asked) (g : Reader G) (gr : G) (answer : Result Summary BatchError)
+in_scene : {G : Type 0} (s : Scene) (way : Direction) (P : ℕ) (job : JobDone) (gr_text : List ℕ) (asked : AskedList) (g : Reader G) (gr : G) (answer : Result Summary BatchError)
     → JobAnswered P way gr_text asked (IsGraphRefused P way gr_text g gr) (AreRefused P asked) job (wrote_in s) answer → IsAnsweredIn s P way job gr_text asked answer
 in_scene s way P job gr_text asked g gr (Ok summary) is = is
 in_scene s way P job gr_text asked g gr (Err (NoSuchVertex v role)) is = is
@@ -61,7 +61,7 @@ of_some_opened is s way P job other follows (Ok summary) (gr_text, text, are) = 
 of_some_opened is s way P job other follows (Err error) some = tt
 
 -- A fault of a job is borne out.
-pub borne_out : (way : Direction) (P : ℕ) (asked : List ℕ → Asked) (job : JobDone) (sources targets : DimacsError → Type 0) (paths : Paths) (s : Scene) (graph : List ℕ) (gr : Failing)
+pub borne_out : (way : Direction) (P : ℕ) (asked : List ℕ → AskedList) (job : JobDone) (sources targets : DimacsError → Type 0) (paths : Paths) (s : Scene) (graph : List ℕ) (gr : Failing)
     → gr ≡ s.files.failing graph
     → ((e : DimacsError) → sources e → MayBeRefused (paths_in graph paths) s.files file.Sources e) → ((e : DimacsError) → targets e → MayBeRefused (paths_in graph paths) s.files file.Targets e)
     → ((network : Graph) (numbers : List ℕ) → job (wrote_in s) network numbers (Err Write) → s.failed ≡ true)

@@ -15,34 +15,22 @@ use Rattle.sp_command.specs.Causes.{Paths, NamesInputTwice}
 use Rattle.sp_cli.specs.Told.{IsOpenedList}
 use Rattle.sp_cli.specs.Commands.{paths_in}
 
-no_sources : file.Graph ≢ file.Sources
-no_sources = search rules
-
-no_targets : file.Graph ≢ file.Targets
-no_targets = search rules
-
-no_pairs : file.Graph ≢ file.Pairs
-no_pairs = search rules
-
-no_sources_are_targets : file.Sources ≢ file.Targets
-no_sources_are_targets = search rules
-
 module _ (graph : List ℕ) (paths : Paths) where
   -- The graph is standard input, and so is another file.
   with_graph : (kind : FileKind) → file.Graph ≢ kind → graph ≡ codes "-" → paths_in graph paths kind ≡ Some (codes "-") → NamesInputTwice (paths_in graph paths)
   with_graph kind apart named is = (file.Graph, kind, apart, ap Some named, is)
 
   pub with_sources : graph ≡ codes "-" → paths file.Sources ≡ Some (codes "-") → NamesInputTwice (paths_in graph paths)
-  with_sources named is = with_graph file.Sources no_sources named is
+  with_sources named is = with_graph file.Sources (search rules) named is
 
   pub with_targets : graph ≡ codes "-" → paths file.Targets ≡ Some (codes "-") → NamesInputTwice (paths_in graph paths)
-  with_targets named is = with_graph file.Targets no_targets named is
+  with_targets named is = with_graph file.Targets (search rules) named is
 
   pub with_pairs : graph ≡ codes "-" → paths file.Pairs ≡ Some (codes "-") → NamesInputTwice (paths_in graph paths)
-  with_pairs named is = with_graph file.Pairs no_pairs named is
+  with_pairs named is = with_graph file.Pairs (search rules) named is
 
   pub both_lists : paths file.Sources ≡ Some (codes "-") → paths file.Targets ≡ Some (codes "-") → NamesInputTwice (paths_in graph paths)
-  both_lists sources_is targets_is = (file.Sources, file.Targets, no_sources_are_targets, sources_is, targets_is)
+  both_lists sources_is targets_is = (file.Sources, file.Targets, search rules, sources_is, targets_is)
 
 pub opened_file : {D : Type 0} (device : Reader D) (files : Files) (list : Sources) (path : Bor (List ℕ)) (opened : D)
     → list ≡ sources.File path → ((bytes : List ℕ) → files.text path.now ≡ Some bytes → device.left opened ≡ Some bytes) → device.failing opened ≡ files.failing path.now

@@ -14,7 +14,7 @@ use Rattle.sp_command.specs.Scene.{Files, Scene, IsUnwritten}
 use Rattle.sp_options.specs.Ends.{end_after, fault_of}
 use Rattle.sp_options.specs.Width.{IsBucket}
 use Rattle.sp_options.specs.Within.{IsLimit}
-use Rattle.sp_cli.specs.declared.command.InGraph.{InGraph}
+use Rattle.sp_cli.specs.declared.command.GraphCommand.{GraphCommand}
 use Rattle.sp_cli.specs.Told.{IsAnswered, IsShut, IsTold, IsFinished, NoVertex}
 use Rattle.sp_cli.specs.Commands.{Answering, IsJobAnswer, faults_in}
 use Rattle.sp_cli.proofs.Near.{ends_near}
@@ -57,7 +57,7 @@ shut paths files fault.Memory is = absurd is
 shut paths files fault.WriteFailed is = absurd is
 shut paths files fault.CannotWrite is = absurd is
 
-module _ {C : Type 0} (P : ℕ) (within : C → Option ℕ) (placeless : C → Type 0) (answers : Answering C) (given : InGraph C) (s : Scene) (bucket : IsBucket P given.options.width) (in_range : IsLimit P (within given.own)) (places : ¬ (placeless given.own)) where
+module _ {C : Type 0} (P : ℕ) (within : C → Option ℕ) (placeless : C → Type 0) (answers : Answering C) (given : GraphCommand C) (s : Scene) (bucket : IsBucket P given.options.width) (in_range : IsLimit P (within given.own)) (places : ¬ (placeless given.own)) where
   -- Its job has answered.
   pub job_answers : (paths : Paths) (answer : Result Summary BatchError) → IsAnswered paths (within given.own) (answers given.own given.options.direction given.graph.now s) s answer → IsJobAnswer P within placeless answers given s (end_after given.options.far_ok answer)
   job_answers paths answer is =
@@ -89,7 +89,7 @@ pub shut_borne_out : (paths : Paths) (own : Fault → Type 0) (s : Scene) (why :
 shut_borne_out paths own s why is = let why_is = shut paths s.files why is in subst (λ w. IsBorneOut paths own s w) (sym why_is.1) why_is.2
 
 -- A number that is no vertex is a fault of each command's own.
-pub job_borne_out : {C : Type 0} (P : ℕ) (within : C → Option ℕ) (placeless : C → Type 0) (given : InGraph C) (far_ok : Bool) (paths : Paths) (s : Scene) (answer : Result Summary BatchError)
+pub job_borne_out : {C : Type 0} (P : ℕ) (within : C → Option ℕ) (placeless : C → Type 0) (given : GraphCommand C) (far_ok : Bool) (paths : Paths) (s : Scene) (answer : Result Summary BatchError)
     → IfErr answer (λ e. IsBorneOut paths NoVertex s (fault_of e)) → IfErr (end_after far_ok answer) (IsBorneOut paths (faults_in P within placeless given) s)
 job_borne_out P within placeless given far_ok paths s (Ok summary) is = tt
 job_borne_out P within placeless given far_ok paths s (Err (NoSuchVertex v role)) is = tt

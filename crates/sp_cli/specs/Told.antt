@@ -9,7 +9,7 @@ use Rattle.sp_network.specs.declared.directions.Direction.{Direction}
 use Rattle.sp_jobs.specs.declared.answers.Summary.{Summary}
 use Rattle.sp_jobs.specs.declared.answers.BatchError.{BatchError}
 use Rattle.sp_jobs.specs.declared.listing.Listing.{Listing}
-use Rattle.sp_jobs.specs.Listing.{Asked, InText, These, AreRefused, HasLeft, IsNumbered, MayRefuse, asked_in}
+use Rattle.sp_jobs.specs.Listing.{AskedList, InText, These, AreRefused, HasLeft, IsNumbered, MayRefuse, asked_in}
 use Rattle.sp_jobs.specs.Network.{IsNetworkRefused}
 use Rattle.sp_jobs.specs.Answered.{Wrote, JobDone, JobAnswered, JobOfSome}
 use Rattle.sp_command.specs.declared.faults.Fault.{Fault}
@@ -26,7 +26,7 @@ use Rattle.sp_options.specs.Ends.{end_of, end_after, fault_of}
 -- ## Lists
 
 -- what a list asks for, if its file has this text
-abbrev pub asked_of : Sources → (text : List ℕ) → Asked
+abbrev pub asked_of : Sources → (text : List ℕ) → AskedList
 asked_of (File path) text = InText None text
 asked_of (Part path places) text = InText places text
 asked_of (Given given) text = These given.list.items
@@ -62,11 +62,11 @@ wrote_in s = record { before = s.before; after = s.after; failed = s.failed }
 
 -- In the scene that is the answer of the job to the text of a graph and to what is asked for: a refusal of one of them, with nothing
 -- written, or what is done; whatever a reader leaves of a text that it refuses, and whether its device fails or not.
-abbrev pub IsAnsweredIn : Scene → (P : ℕ) → (way : Direction) → JobDone → (gr : List ℕ) → Asked → Result Summary BatchError → Type 0
+abbrev pub IsAnsweredIn : Scene → (P : ℕ) → (way : Direction) → JobDone → (gr : List ℕ) → AskedList → Result Summary BatchError → Type 0
 IsAnsweredIn s P way job gr asked answer = JobAnswered P way gr asked (IsNetworkRefused P way gr) (AreRefused P asked) job (wrote_in s) answer
 
 -- The same for some text of a graph, and what is asked for in some text.
-abbrev pub IsOfSomeIn : Scene → (P : ℕ) → (way : Direction) → JobDone → (List ℕ → Asked) → Result Summary BatchError → Type 0
+abbrev pub IsOfSomeIn : Scene → (P : ℕ) → (way : Direction) → JobDone → (List ℕ → AskedList) → Result Summary BatchError → Type 0
 IsOfSomeIn s P way job asked answer = JobOfSome P way asked job (wrote_in s) answer
 
 -- With a limit no vertex is too far.

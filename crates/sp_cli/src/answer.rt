@@ -11,7 +11,7 @@ ghost use Rattle.sp_command.specs.declared.faults.Fault.TheVariants.{LimitOutOfR
 ghost use Rattle.sp_options.specs.Within.{IsLimit};
 ghost use Rattle.sp_cli.specs.Commands.{EndsAt, IsPlaced, IsUntouched};
 
-use crate::place::Place;
+use crate::context::CommandContext;
 use sp_command::{Fault, FileKind, Inputs};
 use sp_device::Write;
 use sp_jobs::{BatchError, BucketWidth, Progress, Summary};
@@ -20,7 +20,7 @@ use std::sync::Wait;
 use std::thread::Threads;
 
 /// A command's own part, as it runs in words with `P` bits of predecessor.
-pub trait Answer<const P: u32> {
+pub trait GraphAnswer<const P: u32> {
     /// The paths of its files besides the graph.
     ghost paths: { Self → Paths };
 
@@ -53,12 +53,11 @@ pub trait Answer<const P: u32> {
 
     /// Opens the command's files and runs its job. If there is one worker, the calling thread runs it alone; otherwise
     /// threads run it that may wait for one another.
-    /// another.
     fn answer<R: Threads + Wait + Sync, F: Inputs, W: Write>(
         &self,
         rt: &R,
         alloc: Global,
-        place: &Place<'_, F>,
+        place: &CommandContext<'_, F>,
         width: BucketWidth<P>,
         out: &mut W,
     ) -> Result<Result<Summary, BatchError>, Fault>

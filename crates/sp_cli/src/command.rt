@@ -1,15 +1,15 @@
 //! Commands that run a job in a graph: what all of them share, and the part of their own. Each command says in that
-//! part what its words are (`Command`) and what its job answers (`Answer`).
+//! part what its words are (`Command`) and what its job answers (`GraphAnswer`).
 ghost use Rattle.std.specs.Prelude.{◌≡◌, ◌∷◌, [], true};
 ghost use Rattle.sp_command.specs.Causes.{NamesInputTwice};
 ghost use Rattle.sp_command.specs.Reading.{IsLacking, IsNamed, IsUnnamed};
 ghost use Rattle.sp_command.specs.Rules.{shape_with};
 ghost use Rattle.sp_cli.specs.Commands.{IsInGraph, IsJobAnswer, LacksInGraph, faults_in, paths_in};
 
-use crate::answer::Answer;
-use crate::place::Place;
+use crate::answer::GraphAnswer;
+use crate::context::CommandContext;
 use clap::{ArgMatches, Error};
-use sp_command::{BuiltCommand, Command, Commands, Fault, FileKind, Inputs, Run, Status};
+use sp_command::{BuiltCommand, Command, Commands, Fault, FileKind, Inputs, Runnable, Status};
 use sp_device::Write;
 use sp_jobs::Listener;
 use sp_options::RunOptions;
@@ -19,7 +19,7 @@ use std::thread::Threads;
 
 /// A command that runs a job in a graph.
 #[derive(Drop)]
-pub struct InGraph<'a, C> {
+pub struct GraphCommand<'a, C> {
     /// The path of the graph.
     pub graph: &'a str,
     /// The options for its runs.
@@ -28,7 +28,7 @@ pub struct InGraph<'a, C> {
     pub own: C,
 }
 
-impl<'a, C: Command<'a>> Commands<'a> for InGraph<'a, C> {
+impl<'a, C: Command<'a>> Commands<'a> for GraphCommand<'a, C> {
     ghost shapes = { shape_with C.spelled C.rules ∷ [] };
 
     ghost named = { IsNamed C.spelled (IsInGraph C.reads) };
@@ -60,7 +60,7 @@ impl<'a, C: Command<'a>> Commands<'a> for InGraph<'a, C> {
         let Some(own) = C::read(alloc, given)? else {
             return Ok(None);
         };
-        Ok(Some(InGraph {
+        Ok(Some(GraphCommand {
             graph,
             options,
             own,
@@ -79,7 +79,7 @@ impl<'a, C: Command<'a>> Commands<'a> for InGraph<'a, C> {
     }
 }
 
-impl<const P: u32, C: Answer<P>> Run<P> for InGraph<'_, C> {
+impl<const P: u32, C: GraphAnswer<P>> Runnable<P> for GraphCommand<'_, C> {
     ghost answers = { IsJobAnswer P C.within C.placeless C.answers };
 
     ghost paths = { λ given. paths_in given.graph.now (C.paths given.own) };
@@ -93,13 +93,13 @@ impl<const P: u32, C: Answer<P>> Run<P> for InGraph<'_, C> {
         files: &F,
         out: &mut W,
     ) -> Result<Status, Fault> {
-        let teller = self.options.teller(files);
-        let settings = self.options.settings::<P, _>(&teller)?;
-        let place = Place {
+        let reporter = self.options.reporter(files);
+        let settings = self.options.settings::<P, _>(&reporter)?;
+        let place = CommandContext {
             graph: self.graph,
             direction: self.options.direction,
             files,
-            teller: &teller,
+            reporter: &reporter,
             limit: self.own.limit()?,
             workers: settings.workers,
         };
@@ -114,7 +114,7 @@ impl<const P: u32, C: Answer<P>> Run<P> for InGraph<'_, C> {
             .answer::<R, F, W>(rt, alloc, &place, settings.width, out)?;
         let end = self.options.end_of(answer);
         if let Ok(written) = answer {
-            teller.hear(C::progress(written, written.sources as usize));
+            reporter.hear(C::progress(written, written.sources as usize));
         }
         end
     }
@@ -122,7 +122,7 @@ impl<const P: u32, C: Answer<P>> Run<P> for InGraph<'_, C> {
 
 // Returns whether two of a command's files are both standard input. No command has both targets and pairs.
 #[tactic(auto, using(crate::proofs::Opening::both_lists))]
-fn names_input_twice<const P: u32, C: Answer<P>>(graph: &str, own: &C) -> bool
+fn names_input_twice<const P: u32, C: GraphAnswer<P>>(graph: &str, own: &C) -> bool
     ensures { result ≡ true → NamesInputTwice (paths_in graph.now (C.paths own.now)) }
 {
     let sources = own.is_input(FileKind::Sources);

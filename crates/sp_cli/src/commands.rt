@@ -2,8 +2,8 @@
 //!
 //! Each command is a type in a file of its own, in this crate or in one below it, with its arguments, its help and what
 //! it does. To add a command, write such a file, and add its type to `AnyCommand`. A command that runs a job in a graph
-//! is written as its own part of `InGraph`.
-use crate::command::InGraph;
+//! is written as its own part of `GraphCommand`.
+use crate::command::GraphCommand;
 use crate::matrix::MatrixCommand;
 use crate::nearest::NearestCommand;
 use crate::pairs::PairsCommand;
@@ -13,13 +13,13 @@ use sp_tools::{CheckCommand, OffersCommand, PackCommand, ReplayCommand};
 
 /// A command of the program, with its options and the paths of its files. The commands are in the order of the help.
 pub type AnyCommand<'a> = OneOf<
-    InGraph<'a, TreeCommand<'a>>,
+    GraphCommand<'a, TreeCommand<'a>>,
     OneOf<
-        InGraph<'a, PairsCommand<'a>>,
+        GraphCommand<'a, PairsCommand<'a>>,
         OneOf<
-            InGraph<'a, MatrixCommand<'a>>,
+            GraphCommand<'a, MatrixCommand<'a>>,
             OneOf<
-                InGraph<'a, NearestCommand<'a>>,
+                GraphCommand<'a, NearestCommand<'a>>,
                 OneOf<
                     CheckCommand<'a>,
                     OneOf<PackCommand<'a>, OneOf<ReplayCommand<'a>, OffersCommand<'a>>>,

@@ -7,11 +7,11 @@
 mod answer;
 mod command;
 mod commands;
+mod context;
 mod laws;
 mod matrix;
 mod nearest;
 mod pairs;
-mod place;
 mod run;
 mod tree;
 

@@ -8,11 +8,11 @@ ghost use Rattle.sp_options.specs.Lists.{AreListed, ListsNone};
 ghost use Rattle.sp_cli.specs.Commands.{EndsAt, IsPlaced, IsUntouched};
 ghost use Rattle.sp_cli.specs.Words.{matrix_rules};
 
-use crate::answer::Answer;
-use crate::by_crew;
-use crate::place::{Place, is_input, lacks_places};
+use crate::answer::GraphAnswer;
+use crate::by_handle;
+use crate::context::{CommandContext, is_input, lacks_places};
 use clap::{ArgMatches, Error};
-use sp_command::{BuiltCommand, Command, Fault, FileKind, GRAPH_FILE, Inputs, after_help, file};
+use sp_command::{BuiltCommand, Command, Fault, FileKind, Inputs, after_help, graph_file};
 use sp_device::Write;
 use sp_jobs::{BatchError, BucketWidth, Progress, Summary, run_matrix_told};
 use sp_options::{Lists, RunOptions};
@@ -141,8 +141,8 @@ Other errors are
         "matrix"
     }
 
-    fn build(alloc: Global) -> BuiltCommand<'a> {
-        let command = clap::Command::new(alloc, "matrix").arg(file(alloc, "GR", GRAPH_FILE))?;
+    fn add_arguments(command: clap::Command<'a>, alloc: Global) -> BuiltCommand<'a> {
+        let command = command.arg(graph_file(alloc))?;
         RunOptions::add_with_mean(Lists::add_to(command, alloc)?, alloc, WORKERS_LONG)
     }
 
@@ -162,7 +162,7 @@ Other errors are
     }
 }
 
-impl<const P: u32> Answer<P> for MatrixCommand<'_> {
+impl<const P: u32> GraphAnswer<P> for MatrixCommand<'_> {
     ghost paths = { λ given. list_paths given.lists };
 
     ghost within = { λ _. None };
@@ -191,7 +191,7 @@ impl<const P: u32> Answer<P> for MatrixCommand<'_> {
         &self,
         rt: &R,
         alloc: Global,
-        place: &Place<'_, F>,
+        place: &CommandContext<'_, F>,
         width: BucketWidth<P>,
         out: &mut W,
     ) -> Result<Result<Summary, BatchError>, Fault>
@@ -206,8 +206,8 @@ impl<const P: u32> Answer<P> for MatrixCommand<'_> {
         let sources = place.open_list(FileKind::Sources, &self.lists.sources)?;
         let targets = place.open_list(FileKind::Targets, &self.lists.targets)?;
         let settings = place.settings::<P>(width);
-        by_crew!(rt, settings, crew => Ok(run_matrix_told(
-            crew, alloc, &mut gr, sources, targets, out, &settings,
+        by_handle!(rt, settings, handle => Ok(run_matrix_told(
+            handle, alloc, &mut gr, sources, targets, out, &settings,
         )))
     }
 

@@ -7,11 +7,11 @@ ghost use Rattle.sp_cli.specs.Answers.{NearestAnswers, source_paths};
 ghost use Rattle.sp_cli.specs.Commands.{EndsAt, IsPlaced, IsUntouched};
 ghost use Rattle.sp_cli.specs.Words.{AreNamedWithin, LacksSources, nearest_rules};
 
-use crate::answer::Answer;
-use crate::by_crew;
-use crate::place::{Place, is_input, lacks_places};
+use crate::answer::GraphAnswer;
+use crate::by_handle;
+use crate::context::{CommandContext, is_input, lacks_places};
 use clap::{ArgMatches, Error};
-use sp_command::{BuiltCommand, Command, Fault, FileKind, GRAPH_FILE, Inputs, after_help, file};
+use sp_command::{BuiltCommand, Command, Fault, FileKind, Inputs, after_help, graph_file};
 use sp_device::Write;
 use sp_jobs::{BatchError, BucketWidth, Progress, Summary, run_nearest_told};
 use sp_options::{RunOptions, Sources, Within};
@@ -129,8 +129,8 @@ Other errors are
         "nearest"
     }
 
-    fn build(alloc: Global) -> BuiltCommand<'a> {
-        let command = clap::Command::new(alloc, "nearest").arg(file(alloc, "GR", GRAPH_FILE))?;
+    fn add_arguments(command: clap::Command<'a>, alloc: Global) -> BuiltCommand<'a> {
+        let command = command.arg(graph_file(alloc))?;
         let command = Sources::add_all_to(command, alloc)?.arg(Within::option(alloc))?;
         RunOptions::add_with_mean(command, alloc, WORKERS_LONG)
     }
@@ -153,7 +153,7 @@ Other errors are
     }
 }
 
-impl<const P: u32> Answer<P> for NearestCommand<'_> {
+impl<const P: u32> GraphAnswer<P> for NearestCommand<'_> {
     ghost paths = { λ near. source_paths near.sources };
 
     ghost within = { λ near. near.within.limit };
@@ -178,7 +178,7 @@ impl<const P: u32> Answer<P> for NearestCommand<'_> {
         &self,
         rt: &R,
         alloc: Global,
-        place: &Place<'_, F>,
+        place: &CommandContext<'_, F>,
         width: BucketWidth<P>,
         out: &mut W,
     ) -> Result<Result<Summary, BatchError>, Fault>
@@ -192,8 +192,8 @@ impl<const P: u32> Answer<P> for NearestCommand<'_> {
         let mut gr = place.open_graph()?;
         let sources = place.open_list(FileKind::Sources, &self.sources)?;
         let settings = place.settings::<P>(width);
-        by_crew!(rt, settings, crew => Ok(run_nearest_told(
-            crew, alloc, &mut gr, sources, place.limit, out, &settings,
+        by_handle!(rt, settings, handle => Ok(run_nearest_told(
+            handle, alloc, &mut gr, sources, place.limit, out, &settings,
         )))
     }
 

@@ -7,11 +7,11 @@ ghost use Rattle.clap.specs.Matches.{first_value};
 ghost use Rattle.sp_cli.specs.Commands.{EndsAt, IsPlaced, IsUntouched};
 ghost use Rattle.sp_cli.specs.Words.{pairs_rules};
 
-use crate::answer::Answer;
-use crate::by_crew;
-use crate::place::Place;
+use crate::answer::GraphAnswer;
+use crate::by_handle;
+use crate::context::CommandContext;
 use clap::{ArgMatches, Error};
-use sp_command::{BuiltCommand, Command, Fault, FileKind, GRAPH_FILE, Inputs, after_help, file};
+use sp_command::{BuiltCommand, Command, Fault, FileKind, Inputs, after_help, file, graph_file};
 use sp_device::Write;
 use sp_jobs::{BatchError, BucketWidth, Progress, Summary};
 use sp_options::RunOptions;
@@ -122,9 +122,9 @@ source: the first number above N, S before T; nothing is written.
         "pairs"
     }
 
-    fn build(alloc: Global) -> BuiltCommand<'a> {
-        let command = clap::Command::new(alloc, "pairs")
-            .arg(file(alloc, "GR", GRAPH_FILE))?
+    fn add_arguments(command: clap::Command<'a>, alloc: Global) -> BuiltCommand<'a> {
+        let command = command
+            .arg(graph_file(alloc))?
             .arg(file(alloc, "PAIRS", "The pairs, a file of lines q S T"))?;
         RunOptions::add_to(command, alloc, WORKERS_LONG)
     }
@@ -144,7 +144,7 @@ source: the first number above N, S before T; nothing is written.
     }
 }
 
-impl<const P: u32> Answer<P> for PairsCommand<'_> {
+impl<const P: u32> GraphAnswer<P> for PairsCommand<'_> {
     ghost paths = { pairs_paths };
 
     ghost within = { λ _. None };
@@ -169,7 +169,7 @@ impl<const P: u32> Answer<P> for PairsCommand<'_> {
         &self,
         rt: &R,
         alloc: Global,
-        place: &Place<'_, F>,
+        place: &CommandContext<'_, F>,
         width: BucketWidth<P>,
         out: &mut W,
     ) -> Result<Result<Summary, BatchError>, Fault>
@@ -182,8 +182,8 @@ impl<const P: u32> Answer<P> for PairsCommand<'_> {
         let mut gr = place.open_graph()?;
         let mut pairs = place.open(FileKind::Pairs, self.pairs)?;
         let settings = place.settings::<P>(width);
-        by_crew!(rt, settings, crew => Ok(run_pairs_told(
-            crew, alloc, &mut gr, &mut pairs, out, &settings,
+        by_handle!(rt, settings, handle => Ok(run_pairs_told(
+            handle, alloc, &mut gr, &mut pairs, out, &settings,
         )))
     }
 

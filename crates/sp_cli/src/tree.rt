@@ -7,11 +7,11 @@ ghost use Rattle.sp_cli.specs.Answers.{TreeAnswers, source_paths};
 ghost use Rattle.sp_cli.specs.Commands.{EndsAt, IsPlaced, IsUntouched};
 ghost use Rattle.sp_cli.specs.Words.{AreNamedWithin, LacksSources, tree_rules};
 
-use crate::answer::Answer;
-use crate::by_crew;
-use crate::place::{Place, is_input, lacks_places};
+use crate::answer::GraphAnswer;
+use crate::by_handle;
+use crate::context::{CommandContext, is_input, lacks_places};
 use clap::{ArgMatches, Error};
-use sp_command::{BuiltCommand, Command, Fault, FileKind, GRAPH_FILE, Inputs, after_help, file};
+use sp_command::{BuiltCommand, Command, Fault, FileKind, Inputs, after_help, graph_file};
 use sp_device::Write;
 use sp_jobs::{BatchError, BucketWidth, Progress, Summary, run_batch_told};
 use sp_options::{RunOptions, Sources, Within};
@@ -158,8 +158,8 @@ Other errors are
         "tree"
     }
 
-    fn build(alloc: Global) -> BuiltCommand<'a> {
-        let command = clap::Command::new(alloc, "tree").arg(file(alloc, "GR", GRAPH_FILE))?;
+    fn add_arguments(command: clap::Command<'a>, alloc: Global) -> BuiltCommand<'a> {
+        let command = command.arg(graph_file(alloc))?;
         let command = Sources::add_to(command, alloc)?.arg(Within::option(alloc))?;
         RunOptions::add_to(command, alloc, WORKERS_LONG)
     }
@@ -182,7 +182,7 @@ Other errors are
     }
 }
 
-impl<const P: u32> Answer<P> for TreeCommand<'_> {
+impl<const P: u32> GraphAnswer<P> for TreeCommand<'_> {
     ghost paths = { λ tree. source_paths tree.sources };
 
     ghost within = { λ tree. tree.within.limit };
@@ -207,7 +207,7 @@ impl<const P: u32> Answer<P> for TreeCommand<'_> {
         &self,
         rt: &R,
         alloc: Global,
-        place: &Place<'_, F>,
+        place: &CommandContext<'_, F>,
         width: BucketWidth<P>,
         out: &mut W,
     ) -> Result<Result<Summary, BatchError>, Fault>
@@ -221,8 +221,8 @@ impl<const P: u32> Answer<P> for TreeCommand<'_> {
         let mut gr = place.open_graph()?;
         let sources = place.open_list(FileKind::Sources, &self.sources)?;
         let settings = place.settings::<P>(width);
-        by_crew!(rt, settings, crew => Ok(run_batch_told(
-            crew, alloc, &mut gr, sources, place.limit, out, &settings,
+        by_handle!(rt, settings, handle => Ok(run_batch_told(
+            handle, alloc, &mut gr, sources, place.limit, out, &settings,
         )))
     }
 

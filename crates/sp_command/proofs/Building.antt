@@ -72,15 +72,6 @@ then_commands old mid one other r first then = IfOk-weaker r (AddsCommands mid o
 pub then_rules : {E : Type 0} (old mid : Command) (one other : List Rule) (r : Result Command E) → AddsRules old one mid → IfOk r (AddsRules mid other) → IfOk r (AddsRules old (one ++ other))
 then_rules old mid one other r first then = IfOk-weaker r (AddsRules mid other) (AddsRules old (one ++ other)) (λ new added. adds_more old mid new one other first added) then
 
--- One more argument of a command that is built.
-pub then_arg : {E : Type 0} (name : List ℕ) (rules : List Rule) (old : Command) (a : Arg) (rule : Rule) (r : Result Command E)
-    → IsBuilt name rules old → rule_of a ≡ rule → rule.is_simple ≡ true → IfOk r (AddsArg old a) → IfOk r (IsBuilt name (rules ++ rule ∷ []))
-then_arg name rules old a rule r built is simple added = IfOk-weaker r (AddsArg old a) (IsBuilt name (rules ++ rule ∷ [])) (λ new adds. with_arg name rules old a rule new built is simple adds) added
-
--- Arguments that are added to a command that is built.
-pub then_built : {E : Type 0} (name : List ℕ) (rules more : List Rule) (old : Command) (r : Result Command E) → IsBuilt name rules old → IfOk r (AddsRules old more) → IfOk r (IsBuilt name (rules ++ more))
-then_built name rules more old r built added = IfOk-weaker r (AddsRules old more) (IsBuilt name (rules ++ more)) (λ new adds. adds name rules built) added
-
 -- A command without arguments.
 pub new_built : (name : List ℕ) (command : Command) → app_of command ≡ new_app name → (out-Command command).has_globals ≡ false → IsBuilt name [] command
 new_built name command is local = record { app = is; local = local }

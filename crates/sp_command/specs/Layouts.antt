@@ -2,7 +2,7 @@
 use Rattle.std.specs.Prelude.{◌≡◌, ℕ, true, Result, IfErr}
 use Rattle.sp_command.specs.declared.faults.Fault.{Fault}
 use Rattle.sp_command.specs.declared.faults.Status.{Status}
-use Rattle.sp_command.specs.declared.running.Run.{Ghosts as Running}
+use Rattle.sp_command.specs.declared.running.Runnable.{Ghosts as Running}
 use Rattle.sp_command.specs.declared.layout.PredBits.{PredBits}
 use Rattle.sp_command.specs.declared.layout.PredBits.TheVariants.{Bits20, Bits24, Bits28, Bits32}
 use Rattle.sp_command.specs.Causes.{IsBorneOut}

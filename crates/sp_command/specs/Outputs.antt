@@ -4,14 +4,14 @@ use Rattle.std.specs.Option.{option_map}
 use Rattle.sp_device.specs.declared.devices.Write.{Ghosts as Writer}
 
 -- A file that was kept has a path, and a text, if that is known.
-pub record Kept : Type 0 where
+pub record KeptOutput : Type 0 where
   pub path : List ℕ
   pub text : Option (List ℕ)
 
 -- The outputs are the files that were kept, in their order, if they are known, and whether a file is made and kept for
 -- certain, for each path.
 pub record OutputFiles : Type 0 where
-  pub kept : Option (List Kept)
+  pub kept : Option (List KeptOutput)
   pub takes : List ℕ → Bool
 
 -- Of the outputs of a system nothing is known.

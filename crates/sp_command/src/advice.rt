@@ -76,8 +76,10 @@ impl fmt::Display for Advice<'_> {
                 of_kind(*wanted)
             ),
             Advice::NoComments(file) => write!(f, "{} has no comments", of_kind(*file)),
-            Advice::NoProblem(file) => { write!(f, "no {} line; {}", problem(*file), Lines(*file)) }
-            Advice::Lines(file) => write!(f, "{}", Lines(*file)),
+            Advice::NoProblem(file) => {
+                write!(f, "no {} line; {}", problem(*file), LinesOfKind(*file))
+            }
+            Advice::Lines(file) => write!(f, "{}", LinesOfKind(*file)),
             Advice::Vertex(Some(last)) => write!(f, "vertices are numbered from 1 to {last}"),
             Advice::Range { field, first, last } => {
                 write!(
@@ -187,11 +189,11 @@ fn count(file: FileKind) -> &'static str {
 
 /// The lines of a file of a kind, as a sentence names them.
 #[derive(Clone, Copy)]
-struct Lines(FileKind);
+struct LinesOfKind(FileKind);
 
-impl fmt::Display for Lines {
+impl fmt::Display for LinesOfKind {
     fn fmt<W: fmt::Write>(&self, f: &mut fmt::Formatter<W>) -> fmt::Result {
-        let Lines(file) = *self;
+        let LinesOfKind(file) = *self;
         let rest = match file {
             FileKind::Graph => "and `a U V W` for each of its M arcs",
             FileKind::Sources => "and `s V` for each of its K sources",

@@ -1,5 +1,5 @@
 //! The arguments of commands.
-ghost use Rattle.std.specs.Prelude.{◌≡◌};
+ghost use Rattle.std.specs.Prelude.{◌≡◌, codes};
 ghost use Rattle.clap.specs.Walk.{rule_of};
 ghost use Rattle.sp_command.specs.Rules.{file_rule, flag_rule, valued_rule};
 
@@ -14,6 +14,13 @@ pub fn file<'a>(alloc: Global, name: &'a str, about: &'a str) -> Arg<'a>
     ensures { rule_of result ≡ file_rule name.entry.now }
 {
     Arg::new(alloc, name).help(about).required(true)
+}
+
+/// Returns the argument for the graph of a command.
+pub fn graph_file<'a>(alloc: Global) -> Arg<'a>
+    ensures { rule_of result ≡ file_rule (codes "GR") }
+{
+    file(alloc, "GR", "The graph, a .gr file or a packed one")
 }
 
 /// Returns an option without a value.

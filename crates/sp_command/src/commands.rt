@@ -7,13 +7,13 @@ ghost use Rattle.clap.specs.declared.parser.matches.Found.{Found};
 ghost use Rattle.sp_command.specs.Causes.{Paths};
 ghost use Rattle.sp_command.specs.Either.{either_of};
 ghost use Rattle.sp_command.specs.Reading.{IsLacking, IsNamed, IsRefusedFor, IsUnnamed};
-ghost use Rattle.sp_command.specs.Rules.{AddsCommands, IsBuilt, shape_with};
+ghost use Rattle.sp_command.specs.Rules.{AddsCommands, AddsRules, shape_with};
 
 use crate::faults::{Fault, FileKind, Status};
 use crate::inputs::Inputs;
 use crate::layout::PredBits;
 use crate::outputs;
-use crate::running::Run;
+use crate::running::Runnable;
 use clap::{ArgMatches, Error};
 use sp_device::Write;
 use std::alloc::{AllocError, Global};
@@ -53,9 +53,9 @@ pub trait Command<'a>: Drop {
     fn word() -> &'static str
         ensures { result.now ≡ spelled };
 
-    /// Builds the command with its name and its arguments, except for the layout and the output file.
-    fn build(alloc: Global) -> BuiltCommand<'a>
-        ensures { IfOk result (IsBuilt spelled rules) };
+    /// Adds the command's arguments, except for the layout and the output file, to a command that has its name.
+    fn add_arguments(command: clap::Command<'a>, alloc: Global) -> BuiltCommand<'a>
+        ensures { IfOk result (AddsRules command.entry rules) };
 
     /// Reads the command's arguments. Words that `clap` accepted can still lack something that the command needs: then
     /// the result is `None` or an error.
@@ -116,7 +116,8 @@ impl<'a, C: Command<'a>> Commands<'a> for C {
     ghost paths = { C.paths };
 
     fn add_to(program: clap::Command<'a>, alloc: Global) -> BuiltCommand<'a> {
-        let command = C::build(alloc)?
+        let name: &'a str = C::word();
+        let command = C::add_arguments(clap::Command::new(alloc, name), alloc)?
             .about(C::ABOUT)
             .long_about(C::LONG_ABOUT)
             .after_long_help(C::AFTER_HELP)
@@ -197,7 +198,7 @@ impl<'a, A: Commands<'a>, B: Commands<'a>> Commands<'a> for OneOf<A, B> {
     }
 }
 
-impl<A: Run<P>, B: Run<P>, const P: u32> Run<P> for OneOf<A, B> {
+impl<A: Runnable<P>, B: Runnable<P>, const P: u32> Runnable<P> for OneOf<A, B> {
     ghost answers = { either_of A.answers B.answers };
 
     ghost paths = { either_of A.paths B.paths };

@@ -31,6 +31,3 @@ macro_rules! after_help {
         )
     };
 }
-
-/// The graph that a command reads.
-pub const GRAPH_FILE: &str = "The graph, a .gr file or a packed one";

@@ -3,7 +3,7 @@ ghost use Rattle.std.specs.Prelude.{◌≡◌, Bool, Some, true, false, IfNone, 
 ghost use Rattle.sp_command.specs.Scene.{Files, IsOpened, unknown_files};
 
 use crate::hints::Encoding;
-use crate::report::Report;
+use crate::report::ProgressReport;
 use sp_device::Read;
 use sp_word::Meter;
 use std::io;
@@ -23,7 +23,7 @@ pub trait Inputs {
         ensures opened { IfNone result ((files self.now).opens path.now ≡ false) };
 
     /// Reports the progress of a command to the user. A failure to report changes nothing else.
-    fn tell(&self, _report: Report) {}
+    fn tell(&self, _report: ProgressReport) {}
 
     /// Returns the meter on which a run's workers count the vertices that they have relaxed, if the count is watched
     /// during the run.

@@ -12,7 +12,7 @@ ghost use Rattle.sp_command.specs.Words.{ReadsSpelling, bits_in};
 use crate::arguments::valued;
 use crate::faults::{Fault, Status};
 use crate::inputs::Inputs;
-use crate::running::Run;
+use crate::running::Runnable;
 use clap::Arg;
 use sp_device::Write;
 use sp_word::Word;
@@ -153,9 +153,9 @@ pub trait RunIn {
         ensures untouched { IfErr result (λ fault. is_early fault ≡ true → out.new ≡ out.old) };
 }
 
-impl<C: Run<20> + Run<24> + Run<28> + Run<32>> RunIn for C {
+impl<C: Runnable<20> + Runnable<24> + Runnable<28> + Runnable<32>> RunIn for C {
     ghost runs = { IsRunIn
-        ⟦<C as Run<20>>⟧ ⟦<C as Run<24>>⟧ ⟦<C as Run<28>>⟧ ⟦<C as Run<32>>⟧ };
+        ⟦<C as Runnable<20>>⟧ ⟦<C as Runnable<24>>⟧ ⟦<C as Runnable<28>>⟧ ⟦<C as Runnable<32>>⟧ };
 
     fn run_in<R: Threads + Wait + Sync, F: Inputs, W: Write>(
         &self,
@@ -166,10 +166,10 @@ impl<C: Run<20> + Run<24> + Run<28> + Run<32>> RunIn for C {
         out: &mut W,
     ) -> Result<Status, Fault> {
         match pred_bits {
-            PredBits::Bits20 => <C as Run<20>>::run(self, rt, alloc, files, out),
-            PredBits::Bits24 => <C as Run<24>>::run(self, rt, alloc, files, out),
-            PredBits::Bits28 => <C as Run<28>>::run(self, rt, alloc, files, out),
-            PredBits::Bits32 => <C as Run<32>>::run(self, rt, alloc, files, out),
+            PredBits::Bits20 => <C as Runnable<20>>::run(self, rt, alloc, files, out),
+            PredBits::Bits24 => <C as Runnable<24>>::run(self, rt, alloc, files, out),
+            PredBits::Bits28 => <C as Runnable<28>>::run(self, rt, alloc, files, out),
+            PredBits::Bits32 => <C as Runnable<32>>::run(self, rt, alloc, files, out),
         }
     }
 }

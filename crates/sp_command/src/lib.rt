@@ -23,14 +23,13 @@ mod text;
 mod usage;
 
 pub use advice::Advice;
-pub use arguments::{PLACES, file, flag, valued};
+pub use arguments::{PLACES, file, flag, graph_file, valued};
 pub use commands::{BuiltCommand, Command, Commands, OneOf};
 pub use faults::{Fault, FileKind, Status};
-pub use help::GRAPH_FILE;
 pub use hints::{Encoding, Hint, Naming, PlacesFault, hint_of, option_for, output_hint};
 pub use inputs::Inputs;
 pub use layout::{NoPredBits, PredBits, RunIn};
 pub use outputs::{OUTPUT, Outputs};
-pub use report::Report;
-pub use running::Run;
+pub use report::ProgressReport;
+pub use running::Runnable;
 pub use text::{print, print_short};

@@ -4,7 +4,7 @@ use std::fmt;
 
 /// The progress of a command.
 #[derive(Clone, Copy)]
-pub enum Report {
+pub enum ProgressReport {
     /// This many bytes of a file have been read.
     Read { file: FileKind, bytes: u64 },
     /// The files have been read, and the graph's rows have been built.
@@ -19,38 +19,39 @@ pub enum Report {
     Pairs { done: u64, count: u64 },
 }
 
-impl Report {
+impl ProgressReport {
     /// Returns whether both reports are about the same stage of a command.
-    pub fn is_like(self, other: Report) -> bool {
+    pub fn is_like(self, other: ProgressReport) -> bool {
         match (self, other) {
-            (Report::Read { file, .. }, Report::Read { file: next, .. }) => file == next,
-            (Report::Graph { .. }, Report::Graph { .. }) => true,
-            (Report::Sources { .. }, Report::Sources { .. }) => true,
-            (Report::Runs { .. }, Report::Runs { .. }) => true,
-            (Report::Lines { .. }, Report::Lines { .. }) => true,
-            (Report::Pairs { .. }, Report::Pairs { .. }) => true,
+            (ProgressReport::Read { file, .. }, ProgressReport::Read { file: next, .. }) => file
+                == next,
+            (ProgressReport::Graph { .. }, ProgressReport::Graph { .. }) => true,
+            (ProgressReport::Sources { .. }, ProgressReport::Sources { .. }) => true,
+            (ProgressReport::Runs { .. }, ProgressReport::Runs { .. }) => true,
+            (ProgressReport::Lines { .. }, ProgressReport::Lines { .. }) => true,
+            (ProgressReport::Pairs { .. }, ProgressReport::Pairs { .. }) => true,
             _ => false,
         }
     }
 }
 
-impl fmt::Display for Report {
+impl fmt::Display for ProgressReport {
     fn fmt<W: fmt::Write>(&self, f: &mut fmt::Formatter<W>) -> fmt::Result {
         match self {
-            Report::Read { file, bytes } => write!(f, "{file}: {bytes} bytes read"),
-            Report::Graph { vertices, arcs } => {
+            ProgressReport::Read { file, bytes } => write!(f, "{file}: {bytes} bytes read"),
+            ProgressReport::Graph { vertices, arcs } => {
                 write!(f, "graph of {vertices} vertices and {arcs} arcs")
             }
-            Report::Sources { done, count, bytes } => {
+            ProgressReport::Sources { done, count, bytes } => {
                 write!(f, "{done} of {count} sources, {bytes} bytes written")
             }
-            Report::Runs { done, count, bytes } => {
+            ProgressReport::Runs { done, count, bytes } => {
                 write!(f, "{done} of {count} runs, {bytes} bytes written")
             }
-            Report::Lines { done, count, bytes } => {
+            ProgressReport::Lines { done, count, bytes } => {
                 write!(f, "{done} of {count} lines, {bytes} bytes written")
             }
-            Report::Pairs { done, count } => write!(f, "{done} of {count} pairs"),
+            ProgressReport::Pairs { done, count } => write!(f, "{done} of {count} pairs"),
         }
     }
 }

@@ -15,7 +15,7 @@ use std::sync::Wait;
 use std::thread::Threads;
 
 /// A command that can run in words with `P` bits of predecessor.
-pub trait Run<const P: u32> {
+pub trait Runnable<const P: u32> {
     /// The meaning of the command's answer, given the texts of its files and what is written.
     ghost answers: { Meaning Self };
 

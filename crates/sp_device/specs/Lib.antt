@@ -1,3 +1,4 @@
 pub mod Devices
 pub mod Failing
 pub mod Printing
+pub mod Peeked

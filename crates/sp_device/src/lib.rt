@@ -5,6 +5,7 @@ mod buffer;
 mod devices;
 mod faults;
 mod memory;
+mod peeked;
 mod printing;
 mod streams;
 
@@ -12,5 +13,6 @@ pub use buffer::{Block, Buffer};
 pub use devices::{Failed, Read, Write, write_all};
 pub use faults::WriteFault;
 pub use memory::{UpTo, UpToWriter};
+pub use peeked::Peeked;
 pub use printing::{Printer, finish, make_room, print_number, print_text};
 pub use streams::{OfRead, OfWrite};

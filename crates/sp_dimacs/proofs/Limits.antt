@@ -13,7 +13,7 @@ use Rattle.sp_text.specs.declared.formats.Ranges.{Ranges}
 use Rattle.sp_text.specs.declared.formats.Field.{Field}
 use Rattle.sp_text.specs.Formats.{LineForm, Format, field, ranges_of}
 use Rattle.sp_text.specs.Lines.{lines}
-use Rattle.sp_text.specs.Text.{Item, judge, first_out, top, count, items_of}
+use Rattle.sp_text.specs.Text.{ItemLine, judge, first_out, top, count, items_of}
 use Rattle.sp_text.specs.Accepted.{IsAllowed, IsAccepted}
 use Rattle.sp_text.specs.Collecting.{SpelledBy}
 use Rattle.sp_text.specs.Whole.{IsSpelled}
@@ -53,23 +53,23 @@ only_form : (form other : LineForm) (k : ℕ) → slice_get (form ∷ []) k ≡ 
 only_form form other zero h = cc
 only_form form other (suc k) h = cc
 
-has_form : (format : Format) (form : LineForm) (ranges : Ranges) (ps : List ℕ) (item : Item) → format.items ≡ form ∷ [] → IsAllowed format ranges ps item → item.form ≡ form
+has_form : (format : Format) (form : LineForm) (ranges : Ranges) (ps : List ℕ) (item : ItemLine) → format.items ≡ form ∷ [] → IsAllowed format ranges ps item → item.form ≡ form
 has_form format form ranges ps item one h = only_form form item.form item.kind (rw one at h.form)
 
-count_all : (form : LineForm) (items : List Item) → form.group ≡ 0 → AllByRecursion (λ item. item.form ≡ form) items → length items ≤ count 0 items
+count_all : (form : LineForm) (items : List ItemLine) → form.group ≡ 0 → AllByRecursion (λ item. item.form ≡ form) items → length items ≤ count 0 items
 count_all form [] none h = omega arith
 count_all form (item ∷ items) none h =
     let same : item.form.group ≡ 0 = rw h.0 none in
-    let weight : Item → ℕ = λ x. cond (x.form.group == 0) 1 0 in
+    let weight : ItemLine → ℕ = λ x. cond (x.form.group == 0) 1 0 in
     let step : count 0 (item ∷ items) ≡ weight item + count 0 items = sum_by-cons weight item items in
     let one : weight item ≡ 1 = rw same refl in
     omega (arith, step, one, count_all form items none h.1)
 
 -- No more items of the one form stand than the limit.
-short_list : (format : Format) (form : LineForm) (ranges : Ranges) (ps : List ℕ) (items : List Item) → format.items ≡ form ∷ [] → form.group ≡ 0 → IsAccepted format ranges ps items → length items ≤ top ranges ps form.limit
+short_list : (format : Format) (form : LineForm) (ranges : Ranges) (ps : List ℕ) (items : List ItemLine) → format.items ≡ form ∷ [] → form.group ≡ 0 → IsAccepted format ranges ps items → length items ≤ top ranges ps form.limit
 short_list format form ranges ps items one none h =
-    let all : All (λ (item : Item). item.form ≡ form) items = All-weaker (IsAllowed format ranges ps) (λ (item : Item). item.form ≡ form) (λ item allowed. has_form format form ranges ps item one allowed) items h.allowed in
-    let many = count_all form items none (recursion_from_All (λ (item : Item). item.form ≡ form) items all) in
+    let all : All (λ (item : ItemLine). item.form ≡ form) items = All-weaker (IsAllowed format ranges ps) (λ (item : ItemLine). item.form ≡ form) (λ item allowed. has_form format form ranges ps item one allowed) items h.allowed in
+    let many = count_all form items none (recursion_from_All (λ (item : ItemLine). item.form ≡ form) items all) in
     let few = h.bounded 0 form.limit (rw one (λ e. refl, tt)) in
     omega arith
 
@@ -95,16 +95,16 @@ arc_numbers P ps (u ∷ v ∷ w ∷ []) full h =
     ((tail.0, tail.1), (head.0, head.1), len.0)
 arc_numbers P ps (u ∷ v ∷ w ∷ x ∷ ns) full h = absurd (omega arith)
 
-arc_allowed : (P most : ℕ) (ps : List ℕ) (item : Item) → IsAllowed (gr_up_to most) (ranges_of P) ps item → IsArc (slice_index ps 0) (arc_of item)
+arc_allowed : (P most : ℕ) (ps : List ℕ) (item : ItemLine) → IsAllowed (gr_up_to most) (ranges_of P) ps item → IsArc (slice_index ps 0) (arc_of item)
 arc_allowed P most ps item h =
     let is : item.form ≡ arc_line = has_form (gr_up_to most) arc_line (ranges_of P) ps item refl h in
     arc_numbers P ps item.numbers (rw is at h.full) (rw is at h.in_range)
 
-network : (P most : ℕ) (ps : List ℕ) (items : List Item) (file : GrFile) → IsAccepted (gr_up_to most) (ranges_of P) ps items → IsGraph ps items file → IsNetworkUpTo P most file
+network : (P most : ℕ) (ps : List ℕ) (items : List ItemLine) (file : GrFile) → IsAccepted (gr_up_to most) (ranges_of P) ps items → IsGraph ps items file → IsNetworkUpTo P most file
 network P most ps items file h is =
     let numbers = gr_numbers P most ps h.full h.in_range in
     let few = short_list (gr_up_to most) arc_line (ranges_of P) ps items refl refl h in
-    let within : All (IsArc (slice_index ps 0)) (map arc_of items) = All-map (IsArc (slice_index ps 0)) arc_of items (All-weaker (IsAllowed (gr_up_to most) (ranges_of P) ps) (λ (item : Item). IsArc (slice_index ps 0) (arc_of item)) (arc_allowed P most ps) items h.allowed) in
+    let within : All (IsArc (slice_index ps 0)) (map arc_of items) = All-map (IsArc (slice_index ps 0)) arc_of items (All-weaker (IsAllowed (gr_up_to most) (ranges_of P) ps) (λ (item : ItemLine). IsArc (slice_index ps 0) (arc_of item)) (arc_allowed P most ps) items h.allowed) in
     record {
       least = rw is.0 numbers.0;
       most = rw is.0 numbers.1;
@@ -133,16 +133,16 @@ source_numbers P ps (v ∷ []) full h =
     record { least = only.0; most = only.1 }
 source_numbers P ps (v ∷ w ∷ ns) full h = absurd (omega arith)
 
-source_allowed : (P : ℕ) (ps : List ℕ) (item : Item) → IsAllowed ss (ranges_of P) ps item → IsVertex P (source_of item)
+source_allowed : (P : ℕ) (ps : List ℕ) (item : ItemLine) → IsAllowed ss (ranges_of P) ps item → IsVertex P (source_of item)
 source_allowed P ps item h =
     let is : item.form ≡ source_line = has_form ss source_line (ranges_of P) ps item refl h in
     source_numbers P ps item.numbers (rw is at h.full) (rw is at h.in_range)
 
-source_list : (P : ℕ) (ps : List ℕ) (items : List Item) (file : SsFile) → IsAccepted ss (ranges_of P) ps items → AreSources ps items file → AreSourcesWithin P file
+source_list : (P : ℕ) (ps : List ℕ) (items : List ItemLine) (file : SsFile) → IsAccepted ss (ranges_of P) ps items → AreSources ps items file → AreSourcesWithin P file
 source_list P ps items file h is =
     let most = count_numbers P ps h.full h.in_range in
     let few = short_list ss source_line (ranges_of P) ps items refl refl h in
-    let within : All (IsVertex P) (map source_of items) = All-map (IsVertex P) source_of items (All-weaker (IsAllowed ss (ranges_of P) ps) (λ (item : Item). IsVertex P (source_of item)) (source_allowed P ps) items h.allowed) in
+    let within : All (IsVertex P) (map source_of items) = All-map (IsVertex P) source_of items (All-weaker (IsAllowed ss (ranges_of P) ps) (λ (item : ItemLine). IsVertex P (source_of item)) (source_allowed P ps) items h.allowed) in
     record { short = rw (is, length-map items source_of) (omega (arith, most, few)); sources = rw is within }
 
 pub sources_within : (P : ℕ) (file : SsFile) → IsSpelled (judge ss (ranges_of P)) (SpelledBy ss AreSources) file → AreSourcesWithin P file
@@ -163,16 +163,16 @@ pair_numbers P ps (s ∷ t ∷ []) full h =
     record { source_least = source.0; source_most = source.1; target_least = target.0; target_most = target.1 }
 pair_numbers P ps (s ∷ t ∷ u ∷ ns) full h = absurd (omega arith)
 
-pair_allowed : (P : ℕ) (ps : List ℕ) (item : Item) → IsAllowed pairs (ranges_of P) ps item → IsPairWithin P (pair_of item)
+pair_allowed : (P : ℕ) (ps : List ℕ) (item : ItemLine) → IsAllowed pairs (ranges_of P) ps item → IsPairWithin P (pair_of item)
 pair_allowed P ps item h =
     let is : item.form ≡ pair_line = has_form pairs pair_line (ranges_of P) ps item refl h in
     pair_numbers P ps item.numbers (rw is at h.full) (rw is at h.in_range)
 
-pair_list : (P : ℕ) (ps : List ℕ) (items : List Item) (file : PairsFile) → IsAccepted pairs (ranges_of P) ps items → ArePairs ps items file → ArePairsWithin P file
+pair_list : (P : ℕ) (ps : List ℕ) (items : List ItemLine) (file : PairsFile) → IsAccepted pairs (ranges_of P) ps items → ArePairs ps items file → ArePairsWithin P file
 pair_list P ps items file h is =
     let most = count_numbers P ps h.full h.in_range in
     let few = short_list pairs pair_line (ranges_of P) ps items refl refl h in
-    let within : All (IsPairWithin P) (map pair_of items) = All-map (IsPairWithin P) pair_of items (All-weaker (IsAllowed pairs (ranges_of P) ps) (λ (item : Item). IsPairWithin P (pair_of item)) (pair_allowed P ps) items h.allowed) in
+    let within : All (IsPairWithin P) (map pair_of items) = All-map (IsPairWithin P) pair_of items (All-weaker (IsAllowed pairs (ranges_of P) ps) (λ (item : ItemLine). IsPairWithin P (pair_of item)) (pair_allowed P ps) items h.allowed) in
     record { short = rw (is, length-map items pair_of) (omega (arith, most, few)); pairs = rw is within }
 
 pub pairs_within : (P : ℕ) (file : PairsFile) → IsSpelled (judge pairs (ranges_of P)) (SpelledBy pairs ArePairs) file → ArePairsWithin P file

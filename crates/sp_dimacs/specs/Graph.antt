@@ -2,7 +2,7 @@
 use Rattle.std.specs.Prelude.{◌≡◌, ◌≤◌, ℕ, Bool, List, map, length, slice_index, All, Option, Result}
 use Rattle.sp_word.specs.Word.{max_pred}
 use Rattle.sp_text.specs.declared.faults.DimacsError.{DimacsError}
-use Rattle.sp_text.specs.Text.{Item, Spells, judge}
+use Rattle.sp_text.specs.Text.{ItemLine, Spells, judge}
 use Rattle.sp_text.specs.Collecting.{SpelledBy}
 use Rattle.sp_text.specs.Whole.{AllRead}
 use Rattle.sp_dimacs.specs.declared.formats.TheConstants.{MOST_ARCS}
@@ -13,16 +13,16 @@ use Rattle.sp_text.specs.Formats.{ranges_of}
 use Rattle.sp_dimacs.specs.declared.graphs.GrFile.{GrFile}
 
 -- This is the arc of a line `a U V W`.
-abbrev pub arc_of : Item → Arc
+abbrev pub arc_of : ItemLine → Arc
 arc_of item = record { tail = slice_index item.numbers 0; head = slice_index item.numbers 1; len = slice_index item.numbers 2 }
 
 -- The file holds the first number of the problem line, and the arcs in the order of their lines.
-abbrev pub IsGraph : List ℕ → List Item → GrFile → Type 0
+abbrev pub IsGraph : List ℕ → List ItemLine → GrFile → Type 0
 IsGraph problem items file = (file.n ≡ slice_index problem 0) × (file.arcs.items ≡ map arc_of items)
 
 -- The text may announce at most `most` arcs, has no fault, and spells this graph.
 abbrev pub SpellsUpTo : (P most : ℕ) → List ℕ → GrFile → Type 0
-SpellsUpTo P most text file = (problem : List ℕ) × (items : List Item) × Spells (gr_up_to most) (ranges_of P) text problem items × IsGraph problem items file
+SpellsUpTo P most text file = (problem : List ℕ) × (items : List ItemLine) × Spells (gr_up_to most) (ranges_of P) text problem items × IsGraph problem items file
 
 -- The text has no fault, and spells this graph.
 abbrev pub SpellsGraph : ℕ → List ℕ → GrFile → Type 0

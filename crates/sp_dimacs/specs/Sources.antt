@@ -2,7 +2,7 @@
 use Rattle.std.specs.Prelude.{◌≡◌, ◌≤◌, ℕ, Bool, List, map, length, slice_index, All, Option, Result}
 use Rattle.sp_word.specs.Word.{max_pred}
 use Rattle.sp_text.specs.declared.faults.DimacsError.{DimacsError}
-use Rattle.sp_text.specs.Text.{Item, Spells, judge}
+use Rattle.sp_text.specs.Text.{ItemLine, Spells, judge}
 use Rattle.sp_text.specs.Collecting.{SpelledBy}
 use Rattle.sp_text.specs.Whole.{AllRead}
 use Rattle.sp_text.specs.Formats.{ranges_of}
@@ -11,16 +11,16 @@ use Rattle.sp_dimacs.specs.Formats.{ss}
 use Rattle.sp_dimacs.specs.declared.sources.SsFile.{SsFile}
 
 -- This is the source of a line `s V`.
-abbrev pub source_of : Item → ℕ
+abbrev pub source_of : ItemLine → ℕ
 source_of item = slice_index item.numbers 0
 
 -- The file holds the sources in the order of their lines.
-abbrev pub AreSources : List ℕ → List Item → SsFile → Type 0
+abbrev pub AreSources : List ℕ → List ItemLine → SsFile → Type 0
 AreSources problem items file = file.sources.items ≡ map source_of items
 
 -- The text has no fault, and spells these sources.
 abbrev pub SpellsSources : ℕ → List ℕ → SsFile → Type 0
-SpellsSources P text file = (problem : List ℕ) × (items : List Item) × Spells ss (ranges_of P) text problem items × AreSources problem items file
+SpellsSources P text file = (problem : List ℕ) × (items : List ItemLine) × Spells ss (ranges_of P) text problem items × AreSources problem items file
 
 -- This is the result for the whole text of a device, part of which may be left.
 abbrev pub SourcesRead : ℕ → List ℕ → Option (List ℕ) → Bool → Result SsFile DimacsError → Type 0

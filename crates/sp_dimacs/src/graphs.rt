@@ -19,7 +19,7 @@ use sp_text::{
     Collector, DimacsError, FileFormat, Keep, KeepParts, Kind, LineTaker, Ranges, Values,
     ranges_of, read_items,
 };
-use sp_word::{Crew, Workers};
+use sp_word::{ThreadsAndSleep, Workers};
 use std::alloc::{AllocError, Global};
 use std::marker::PhantomData;
 use std::mem;
@@ -192,7 +192,7 @@ pub fn read_gr<const P: u32, R: Read>(alloc: Global, reader: &mut R) -> Result<G
 // Reads the rest of a device's bytes with this many workers, including this thread. The text may announce as many arcs as
 // these ways allow.
 #[tactic(auto, using(crate::proofs::Limits::graph_read))]
-fn read_ways<const P: u32, A: Ways + Send + Sync, H: Crew, R: Read>(
+fn read_ways<const P: u32, A: Ways + Send + Sync, H: ThreadsAndSleep, R: Read>(
     rt: &H,
     alloc: Global,
     reader: &mut R,
@@ -213,7 +213,7 @@ fn read_ways<const P: u32, A: Ways + Send + Sync, H: Crew, R: Read>(
 
 /// Reads the rest of a device's bytes as `read_gr` does, with this many workers, including this thread. Only this thread reads
 /// the device.
-pub fn read_gr_by<const P: u32, H: Crew, R: Read>(
+pub fn read_gr_by<const P: u32, H: ThreadsAndSleep, R: Read>(
     rt: &H,
     alloc: Global,
     reader: &mut R,
@@ -232,7 +232,7 @@ pub fn read_gr_by<const P: u32, H: Crew, R: Read>(
 
 /// Reads the rest of a device's bytes as `read_gr_by` does, for a graph whose arcs lead both ways. The text may announce half
 /// as many arcs; a greater number is out of its range.
-pub fn read_gr_both_ways<const P: u32, H: Crew, R: Read>(
+pub fn read_gr_both_ways<const P: u32, H: ThreadsAndSleep, R: Read>(
     rt: &H,
     alloc: Global,
     reader: &mut R,

@@ -7,7 +7,7 @@ mod graphs;
 mod laws;
 mod lines;
 mod pairs;
-mod piece;
+mod read_buffer;
 mod readers;
 mod sources;
 
@@ -19,7 +19,7 @@ pub use laws::{
 };
 pub use lines::Lines;
 pub use pairs::{PairsFile, PairsReader, read_pairs};
-pub use piece::Piece;
+pub use read_buffer::ReadBuffer;
 pub use readers::TextReader;
 pub use sources::{SsFile, SsReader, read_ss};
 pub use sp_device::{

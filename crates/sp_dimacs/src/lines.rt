@@ -3,7 +3,7 @@ ghost use Rattle.std.specs.Prelude.{◌≡◌, ◌+◌, ◌-◌, ◌^◌, ◌≤
 ghost use Rattle.sp_text.specs.declared.faults.DimacsError.{DimacsError};
 ghost use Rattle.sp_dimacs.specs.LineReading.{RunTaken, LineRead};
 
-use crate::piece::Piece;
+use crate::read_buffer::ReadBuffer;
 use sp_device::Read;
 use sp_text::{DimacsError, Kind, LONGEST_LINE, LineBuffer, cut_line, extend_line};
 
@@ -17,7 +17,7 @@ pub enum State {
 
 // Moves the bytes up to the next LF, and removes the LF; or moves all bytes if there is none. Returns whether there was
 // an LF.
-fn take_run(piece: &mut Piece, room: &mut LineBuffer) -> Result<bool, Kind>
+fn take_run(piece: &mut ReadBuffer, room: &mut LineBuffer) -> Result<bool, Kind>
     ensures taken { RunTaken piece.old room.old result piece.new room.new }
     ensures short { OnOk result (length room.new ≤ LONGEST_LINE) }
 {
@@ -36,7 +36,7 @@ fn take_run(piece: &mut Piece, room: &mut LineBuffer) -> Result<bool, Kind>
 // next line.
 fn read_line<R: Read>(
     reader: &mut R,
-    piece: &mut Piece,
+    piece: &mut ReadBuffer,
     room: &mut LineBuffer,
 ) -> Result<bool, Kind>
     requires { room.old ≡ [] }
@@ -62,7 +62,7 @@ fn read_line<R: Read>(
 #[derive(Drop)]
 pub struct Lines<R> {
     reader: R,
-    piece: Piece,
+    piece: ReadBuffer,
     room: LineBuffer,
     number: u64,
     has_end: bool,
@@ -82,7 +82,7 @@ impl<R: Read> Lines<R> {
     {
         Lines {
             reader,
-            piece: Piece::new(),
+            piece: ReadBuffer::new(),
             room: LineBuffer::new(),
             number: 0,
             has_end: false,

@@ -1,9 +1,9 @@
 //! The files of the system.
-use crate::noted::{Noted, Notes};
+use crate::noted::{FileNotes, Noted};
 use crate::screen::{Errors, Screen};
-use crate::system::Asked;
+use crate::system::LastRequest;
 use either::Either;
-use sp_command::{Encoding, Inputs, Report};
+use sp_command::{Encoding, Inputs, ProgressReport};
 use sp_device::OfRead;
 use sp_word::Meter;
 use std::fs::Metadata;
@@ -23,9 +23,9 @@ pub struct Disk<'a, R> {
     pub stderr: Stderr,
     /// The process, which knows its number.
     pub process: Process,
-    pub notes: &'a Notes,
+    pub notes: &'a FileNotes,
     /// The last request to the system about output files.
-    pub asked: Asked,
+    pub asked: LastRequest,
     /// Whether the output goes to a file instead of standard output.
     pub has_output: bool,
 }
@@ -96,7 +96,7 @@ impl<'a, R: Files + Eprint + Clock + Wait> Inputs for Disk<'a, R> {
         self.notes.encoding()
     }
 
-    fn tell(&self, report: Report) {
+    fn tell(&self, report: ProgressReport) {
         self.screen().hear(report, self.notes.size());
     }
 

@@ -13,7 +13,7 @@ mod stand;
 mod system;
 
 pub use disk::Disk;
-pub use noted::{Noted, Notes};
+pub use noted::{FileNotes, Noted};
 pub use output::Output;
 pub use screen::{Errors, Screen, Watch};
-pub use system::Asked;
+pub use system::LastRequest;

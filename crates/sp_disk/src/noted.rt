@@ -7,17 +7,17 @@ use std::io;
 /// The reason of the last failure, the encoding and the size of the file whose reading began last, and what was shown
 /// of the run's progress.
 #[derive(Drop)]
-pub struct Notes {
+pub struct FileNotes {
     reason: Cell<Option<io::Error>>,
     encoding: Cell<Option<Encoding>>,
     size: Cell<Option<u64>>,
     watch: Watch,
 }
 
-impl Notes {
+impl FileNotes {
     /// Returns notes with nothing in them.
     pub fn new() -> Self {
-        Notes {
+        FileNotes {
             reason: Cell::new(None),
             encoding: Cell::new(None),
             size: Cell::new(None),
@@ -69,7 +69,7 @@ const BEGINNING: usize = 6;
 #[derive(Drop)]
 pub struct Noted<'a, T> {
     inner: T,
-    notes: &'a Notes,
+    notes: &'a FileNotes,
     size: Option<u64>,
     // The first bytes that have been read, and their number. A reader may ask for a single byte at first.
     beginning: [u8; BEGINNING],
@@ -78,7 +78,7 @@ pub struct Noted<'a, T> {
 
 impl<'a, T> Noted<'a, T> {
     /// Returns a file or a stream of which nothing has been read. It has this size in bytes, if the size is known.
-    pub fn new(inner: T, notes: &'a Notes, size: Option<u64>) -> Self {
+    pub fn new(inner: T, notes: &'a FileNotes, size: Option<u64>) -> Self {
         Noted {
             inner,
             notes,

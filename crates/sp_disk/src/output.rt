@@ -1,10 +1,10 @@
 //! Output files.
 ghost use Rattle.std.specs.Prelude.{IfSome};
-ghost use Rattle.sp_disk.specs.Asked.{IsBegun, IsKept, IsRemoved};
+ghost use Rattle.sp_disk.specs.LastRequest.{IsBegun, IsKept, IsRemoved};
 
 use crate::disk::Disk;
 use crate::noted::Noted;
-use crate::place::{Begun, Destination, Part};
+use crate::place::{BegunFile, Destination, UnfinishedFile};
 use crate::screen::Screen;
 use crate::system::{remove, rename};
 use either::Either;
@@ -81,7 +81,7 @@ impl<'a, R: Files + AllocGlobal + RandomSource + Clock + Eprint + Wait> Outputs 
     type Output = Output<'a, R>;
 
     // `None` means that the file is written directly.
-    type Name = Option<Part>;
+    type Name = Option<UnfinishedFile>;
 
     ghost begins = { λ name disk. IfSome name (λ part. IsBegun part disk.asked) };
 
@@ -99,7 +99,7 @@ impl<'a, R: Files + AllocGlobal + RandomSource + Clock + Eprint + Wait> Outputs 
             return Ok(self.straight(path).map(|output| (None, output)));
         };
         match destination.begin(self.rt, alloc, self.process) {
-            Ok(Begun { file, part, asked }) => {
+            Ok(BegunFile { file, part, asked }) => {
                 self.asked = asked;
                 Ok(Some((Some(part), self.output(Either::Left(Lasting(file))))))
             }

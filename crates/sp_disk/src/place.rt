@@ -1,8 +1,8 @@
 //! The path for an output file, and the temporary file that is written until it is complete.
 ghost use Rattle.std.specs.Prelude.{◌≡◌, IfOk};
-ghost use Rattle.sp_disk.specs.Asked.{IsBegun};
+ghost use Rattle.sp_disk.specs.LastRequest.{IsBegun};
 
-use crate::system::{Asked, make};
+use crate::system::{LastRequest, make};
 use std::alloc::{AllocError, Global};
 use std::fs::{Metadata, OpenFile};
 use std::io::ErrorKind;
@@ -36,17 +36,17 @@ pub struct Destination {
 
 /// A file that has a name of its own until it is complete, and the path that it then takes.
 #[derive(Drop)]
-pub struct Part {
+pub struct UnfinishedFile {
     pub(crate) path: String,
     pub(crate) place: String,
 }
 
 /// A part that was begun: its file, and the request to the system that made it.
 #[derive(Drop)]
-pub struct Begun<F> {
+pub struct BegunFile<F> {
     pub(crate) file: F,
-    pub(crate) part: Part,
-    pub(crate) asked: Asked,
+    pub(crate) part: UnfinishedFile,
+    pub(crate) asked: LastRequest,
 }
 
 impl Destination {
@@ -114,7 +114,7 @@ impl Destination {
         rt: &R,
         alloc: Global,
         process: Process,
-    ) -> io::Result<Begun<R::File>>
+    ) -> io::Result<BegunFile<R::File>>
         ensures begun { IfOk result (λ begun. IsBegun begun.part begun.asked) }
         ensures place { IfOk result (λ begun. begun.part.place ≡ self.path) }
     {
@@ -122,7 +122,7 @@ impl Destination {
             Some(replaced) => replaced.mode() & OWN_RIGHTS,
             None => NEW_RIGHTS,
         };
-        let mut part = Part {
+        let mut part = UnfinishedFile {
             path: String::new(alloc),
             place: self.path,
         };
@@ -133,7 +133,7 @@ impl Destination {
                     if let Some(replaced) = &self.replaced {
                         take_after(rt, &file, &part.path, replaced);
                     }
-                    return Ok(Begun { file, part, asked });
+                    return Ok(BegunFile { file, part, asked });
                 }
                 Err(error) if error.kind() == ErrorKind::AlreadyExists => {}
                 Err(error) => return Err(error),
@@ -143,7 +143,7 @@ impl Destination {
     }
 }
 
-impl Part {
+impl UnfinishedFile {
     // Returns a name in the same folder. It contains the number of the process, which distinguishes it from the names
     // of other processes.
     fn name<R: RandomSource + Clock>(

@@ -4,7 +4,7 @@
 //! The command's thread shows it at each report and when it writes. A second thread shows it in between, since a single
 //! report can cover hours of work.
 use crate::stand::Stand;
-use sp_command::Report;
+use sp_command::ProgressReport;
 use sp_word::Meter;
 use std::io;
 use std::io::{IsTerminal, Stderr};
@@ -106,7 +106,7 @@ impl<'a, R: Eprint + Clock + Wait> Screen<'a, R> {
     }
 
     /// Notes a report, and shows it if a line is due. The file that is being read has this size, if it is known.
-    pub fn hear(&self, report: Report, size: Option<u64>) {
+    pub fn hear(&self, report: ProgressReport, size: Option<u64>) {
         let Ok(now) = Instant::now(self.rt) else {
             return;
         };

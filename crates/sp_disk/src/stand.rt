@@ -1,5 +1,5 @@
 //! The state of a run, and the line that shows it.
-use sp_command::Report;
+use sp_command::ProgressReport;
 use std::fmt;
 use std::time::{Duration, Instant};
 
@@ -11,7 +11,7 @@ const UNIT_BITS: u32 = 24;
 /// The state of a run: its last report, and what has been relaxed and written since then.
 #[derive(Clone, Copy)]
 pub struct Stand {
-    report: Report,
+    report: ProgressReport,
     // The size in bytes of the file that is being read, if it is known.
     size: Option<u64>,
     // The number of vertices of the graph, once it has been built.
@@ -30,18 +30,18 @@ pub struct Stand {
 
 /// A part of a whole.
 #[derive(Clone, Copy)]
-struct Share {
+struct DoneShare {
     done: u64,
     all: u64,
 }
 
-impl Share {
+impl DoneShare {
     // Returns the share in units so large that its numbers can be multiplied by a time.
     fn in_units(self) -> Self {
         if self.all >> EXACT_BITS == 0 {
             return self;
         }
-        Share {
+        DoneShare {
             done: self.done >> UNIT_BITS,
             all: self.all >> UNIT_BITS,
         }
@@ -50,7 +50,7 @@ impl Share {
     // Returns the share in percent. It is 100 only if everything is done.
     fn percent(self) -> u64 {
         let most = if self.done < self.all { 99 } else { 100 };
-        let Share { done, all } = self.in_units();
+        let DoneShare { done, all } = self.in_units();
         done.saturating_mul(100)
             .checked_div(all)
             .unwrap_or(100)
@@ -59,7 +59,7 @@ impl Share {
 
     // Returns how long the rest will take if it goes on at the rate of this time.
     fn time_left(self, passed: Duration) -> Option<Duration> {
-        let Share { done, all } = self.in_units();
+        let DoneShare { done, all } = self.in_units();
         let millis = passed.as_secs().saturating_mul(1000);
         let millis = millis.saturating_add(u64::from(passed.subsec_millis()));
         let rest = all.saturating_sub(done);
@@ -70,7 +70,7 @@ impl Share {
 
 impl Stand {
     /// Returns the state at the first report of a run. The workers have counted this many relaxed vertices.
-    pub fn new(report: Report, size: Option<u64>, counted: u64, now: Instant) -> Self {
+    pub fn new(report: ProgressReport, size: Option<u64>, counted: u64, now: Instant) -> Self {
         let begun = Stand {
             report,
             size,
@@ -86,14 +86,20 @@ impl Stand {
     }
 
     /// Returns the state at the next report. The file that is being read has this size, if it is known.
-    pub fn after(self, report: Report, size: Option<u64>, counted: u64, now: Instant) -> Self {
+    pub fn after(
+        self,
+        report: ProgressReport,
+        size: Option<u64>,
+        counted: u64,
+        now: Instant,
+    ) -> Self {
         let stage_begun = if self.report.is_like(report) {
             self.stage_begun
         } else {
             now
         };
         let vertices = match report {
-            Report::Graph { vertices, .. } => u64::from(vertices),
+            ProgressReport::Graph { vertices, .. } => u64::from(vertices),
             _ => self.vertices,
         };
         Stand {
@@ -113,17 +119,17 @@ impl Stand {
     pub fn with_written(self, written: &[u8]) -> Self {
         let more = written.len() as u64;
         let report = match self.report {
-            Report::Sources { done, count, bytes } => Report::Sources {
+            ProgressReport::Sources { done, count, bytes } => ProgressReport::Sources {
                 done,
                 count,
                 bytes: bytes.saturating_add(more),
             },
-            Report::Runs { done, count, bytes } => Report::Runs {
+            ProgressReport::Runs { done, count, bytes } => ProgressReport::Runs {
                 done,
                 count,
                 bytes: bytes.saturating_add(more),
             },
-            Report::Lines { done, count, bytes } => Report::Lines {
+            ProgressReport::Lines { done, count, bytes } => ProgressReport::Lines {
                 done,
                 count,
                 bytes: bytes.saturating_add(more),
@@ -147,9 +153,9 @@ impl Stand {
     /// Returns the state once the workers have counted this many relaxed vertices. A vertex that is relaxed again is
     /// counted again, so a report may take some of the count back. The number that was shown doesn't decrease.
     pub fn with_counted(self, counted: u64) -> Self {
-        let (Report::Sources { done, count, .. }
-        | Report::Runs { done, count, .. }
-        | Report::Pairs { done, count }) = self.report
+        let (ProgressReport::Sources { done, count, .. }
+        | ProgressReport::Runs { done, count, .. }
+        | ProgressReport::Pairs { done, count }) = self.report
         else {
             return self;
         };
@@ -160,8 +166,8 @@ impl Stand {
     }
 
     /// Returns the line that shows the state at this time.
-    pub fn line(&self, now: Instant) -> Line<'_> {
-        Line { stand: self, now }
+    pub fn line(&self, now: Instant) -> ProgressLine<'_> {
+        ProgressLine { stand: self, now }
     }
 
     // Returns the number of vertices of this many trees.
@@ -170,26 +176,28 @@ impl Stand {
     }
 
     // Returns how much of the report's stage is done.
-    fn share(&self) -> Option<Share> {
+    fn share(&self) -> Option<DoneShare> {
         match self.report {
-            Report::Read { bytes, .. } => self.size.map(|all| Share { done: bytes, all }),
-            Report::Graph { .. } => None,
-            Report::Lines { done, count, .. } => Some(Share { done, all: count }),
-            Report::Sources { done, count, .. }
-            | Report::Runs { done, count, .. }
-            | Report::Pairs { done, count } => Some(self.share_of_runs(done, count)),
+            ProgressReport::Read { bytes, .. } => self
+                .size
+                .map(|all| DoneShare { done: bytes, all }),
+            ProgressReport::Graph { .. } => None,
+            ProgressReport::Lines { done, count, .. } => Some(DoneShare { done, all: count }),
+            ProgressReport::Sources { done, count, .. }
+            | ProgressReport::Runs { done, count, .. }
+            | ProgressReport::Pairs { done, count } => Some(self.share_of_runs(done, count)),
         }
     }
 
     // Relaxing a vertex counts as much as writing two.
-    fn share_of_runs(&self, done: u64, count: u64) -> Share {
+    fn share_of_runs(&self, done: u64, count: u64) -> DoneShare {
         let all = self.each(count);
         let whole = done.saturating_add(self.trees).min(count);
         let written = self.each(whole).saturating_add(self.vertex).min(all);
         // A tree that is being written has been relaxed.
         let begun = whole.saturating_add(u64::from(self.vertex > 0));
         let relaxed = self.relaxed.max(self.each(begun)).min(all);
-        Share {
+        DoneShare {
             done: relaxed.saturating_mul(2).saturating_add(written),
             all: all.saturating_mul(3),
         }
@@ -198,7 +206,7 @@ impl Stand {
     // Returns what is being done for the next source, if there is one left.
     fn stage(&self) -> &'static str {
         match self.report {
-            Report::Sources { done, count, .. } | Report::Runs { done, count, .. }
+            ProgressReport::Sources { done, count, .. } | ProgressReport::Runs { done, count, .. }
                 if done < count => {
                 if self.trees == 0 && self.vertex == 0 {
                     ", relaxing"
@@ -223,17 +231,17 @@ fn last_vertex(bytes: &[u8]) -> Option<u64> {
 /// What is shown of a run: its stage, how much of it is done, the time passed since the run began, and the time that
 /// the rest of the stage will take.
 #[derive(Clone, Copy)]
-pub struct Line<'a> {
+pub struct ProgressLine<'a> {
     stand: &'a Stand,
     now: Instant,
 }
 
-impl fmt::Display for Line<'_> {
+impl fmt::Display for ProgressLine<'_> {
     fn fmt<W: fmt::Write>(&self, f: &mut fmt::Formatter<W>) -> fmt::Result {
-        let Line { stand, now } = *self;
+        let ProgressLine { stand, now } = *self;
         let report = stand.report;
         let stage = stand.stage();
-        let passed = Span(now.duration_since(stand.begun));
+        let passed = ClockTime(now.duration_since(stand.begun));
         let Some(share) = stand.share() else {
             return write!(f, "{report}, {passed}");
         };
@@ -241,7 +249,7 @@ impl fmt::Display for Line<'_> {
         write!(f, "{report}{stage}, {percent} %, {passed}")?;
         if share.done < share.all {
             if let Some(left) = share.time_left(now.duration_since(stand.stage_begun)) {
-                let left = Span(left);
+                let left = ClockTime(left);
                 return write!(f, ", {left} left");
             }
         }
@@ -251,9 +259,9 @@ impl fmt::Display for Line<'_> {
 
 // A time in hours, minutes and seconds.
 #[derive(Clone, Copy)]
-struct Span(Duration);
+struct ClockTime(Duration);
 
-impl fmt::Display for Span {
+impl fmt::Display for ClockTime {
     fn fmt<W: fmt::Write>(&self, f: &mut fmt::Formatter<W>) -> fmt::Result {
         let seconds = self.0.as_secs();
         let (hours, minutes, seconds) = (seconds / 3600, seconds / 60 % 60, seconds % 60);

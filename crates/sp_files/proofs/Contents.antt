@@ -7,11 +7,11 @@ use Rattle.sp_word.specs.Word.{Word, Unreached, Pair, is_layout, max_dist, max_p
 use Rattle.sp_paths.specs.Paths.{IsVertex}
 use Rattle.sp_answer.specs.Table.{TreeTable, AreRows, last_after, last_vertex, with_row}
 use Rattle.sp_answer.proofs.RisingRows.{few_rows, row_added}
-use Rattle.sp_forest.specs.ForestTable.{Row as TableRow, ForestTable, AreRows as AreRootedRows, last_after as last_rooted_after, last_vertex as last_rooted, with_row as with_rooted_row}
-use Rattle.sp_forest.proofs.RisingRows.{few_rows as few_rooted, row_added as rooted_added}
+use Rattle.sp_answer.specs.ForestTable.{Row as TableRow, ForestTable, AreRows as AreRootedRows, last_after as last_rooted_after, last_vertex as last_rooted, with_row as with_rooted_row}
+use Rattle.sp_answer.proofs.ForestRows.{few_rows as few_rooted, row_added as rooted_added}
 use Rattle.sp_files.specs.declared.lines.RowNumbers.{RowNumbers}
 use Rattle.sp_files.specs.declared.lines.Line.TheVariants.{Problem, Row}
-use Rattle.sp_files.specs.declared.content.Place.{Place}
+use Rattle.sp_files.specs.declared.content.RowProgress.{RowProgress}
 use Rattle.sp_files.specs.TreeText.{problem_text, reached_text, row_text, end_text, tree_text}
 use Rattle.sp_files.specs.ForestText.{problem_text as near_text, reached_text as rooted_text, row_text as rooted_row_text, file_text}
 use Rattle.sp_files.specs.Spelling.{Content, OfTree, OfForest, capped_root, capped_row, place, begin, add, second_range, problem_fault, root_fault, row_fault}
@@ -57,7 +57,7 @@ root_within n (Some root) none =
     let range = range_facts 83 1 n root None none in
     (range.0, range.1)
 
-row_within : (P : ℕ) (at : Place) (row : RowNumbers) → row_fault P at row ≡ None → IsRowWithin P at row
+row_within : (P : ℕ) (at : RowProgress) (row : RowNumbers) → row_fault P at row ≡ None → IsRowWithin P at row
 row_within P at row none =
     let first = range_facts 86 (at.last + 1) at.n row.vertex _ none in
     let second = range_facts 68 0 (max_dist P) row.dist _ first.2 in
@@ -68,7 +68,7 @@ root_none : (n : ℕ) (root : Option ℕ) → IsRootWithin n root → root_fault
 root_none n None h = refl
 root_none n (Some root) h = range_ok 83 1 n root None h.0 h.1 refl
 
-within_none : (P : ℕ) (at : Place) (row : RowNumbers) → IsRowWithin P at row → row_fault P at row ≡ None
+within_none : (P : ℕ) (at : RowProgress) (row : RowNumbers) → IsRowWithin P at row → row_fault P at row ≡ None
 within_none P at row h =
     range_ok 86 (at.last + 1) at.n row.vertex _ (omega (arith, h.above)) h.most (range_ok 68 0 (max_dist P) row.dist _ (omega arith) h.dist (range_ok 80 0 at.n row.pred _ (omega arith) h.pred (root_none at.n row.root h.root)))
 

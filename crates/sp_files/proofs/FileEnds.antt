@@ -9,7 +9,7 @@ use Rattle.sp_text.specs.Feeding.{IsMemory, Finished}
 use Rattle.sp_text.specs.Whole.{AllRead, IsSpelled}
 use Rattle.sp_files.specs.declared.reading.FileReader.{FileReader}
 use Rattle.sp_files.specs.Spelling.{judge}
-use Rattle.sp_files.specs.Taking.{Form, content_text, IsContent}
+use Rattle.sp_files.specs.Taking.{FileForm, content_text, IsContent}
 use Rattle.sp_files.specs.Reading.{HasTaken, Spells, FileFinished, FileRead}
 use Rattle.sp_files.proofs.Contents.{text_is}
 use Rattle.sp_files.proofs.Accepted.{finished}
@@ -18,7 +18,7 @@ use Rattle.sp_files.proofs.Accepted.{finished}
 no_memory : (judge : Judge) (text : List ℕ) (e : DimacsError) → IsMemory judge (ended text) (ended text) e → ⊥
 no_memory judge text e h = omega (arith, h.later, ap length h.parts, length-append h.front (h.line ∷ h.behind))
 
-module _ {V : Type 0} (P : ℕ) (form : Form V) (layout : is_layout P ≡ true) where
+module _ {V : Type 0} (P : ℕ) (form : FileForm V) (layout : is_layout P ≡ true) where
   own : (text : List ℕ) (value : V) → fault_at_end (judge P form.begins) text ≡ None → Spells form (lines text) value → (text ≡ content_text (form.content value)) × IsContent P (form.content value)
   own text value none spells =
       let is = finished P form.begins layout text (form.content value) none spells in

@@ -13,7 +13,7 @@ use Rattle.sp_files.specs.declared.taking.Spelled.{Spelled}
 use Rattle.sp_files.specs.declared.taking.Spelled.TheVariants.{Nothing, Open, Whole}
 use Rattle.sp_files.specs.declared.taking.FileLines.{FileLines}
 use Rattle.sp_files.specs.Spelling.{Content, OfTree, OfForest, place, begin, add, next, spelled_from, spelling_state, second_range, problem_fault, row_fault, fault, line_in, capped_line, is_row, judge}
-use Rattle.sp_files.specs.Taking.{Form, spelled_by, Holds, Answers}
+use Rattle.sp_files.specs.Taking.{FileForm, spelled_by, Holds, Answers}
 use Rattle.sp_files.specs.Reading.{HasTaken}
 use Rattle.sp_files.proofs.Ranges.{maxima_small, range_facts, range_capped, small_same, first_capped}
 use Rattle.sp_files.proofs.Contents.{count_small, row_capped, same_kind, row_same, problem_small, begun, added}
@@ -123,7 +123,7 @@ capped_row_line (Some (Row row)) = refl
 capped_row_line (Some (End count)) = refl
 
 -- The answer to the numbers that were read is that to the line.
-pub taken : {V : Type 0} {P : ℕ} (form : Form V) (before : List (List ℕ)) (line : List ℕ) (old new : FileLines V P) (found : Option Line) (result : Result (Unit {0}) Kind)
+pub taken : {V : Type 0} {P : ℕ} (form : FileForm V) (before : List (List ℕ)) (line : List ℕ) (old new : FileLines V P) (found : Option Line) (result : Result (Unit {0}) Kind)
     → is_layout P ≡ true → HasTaken form old before → found ≡ capped_line (line_in line) → Answers P form.begins (spelled_by form old.spelled) found result (spelled_by form new.spelled)
     → Takes (judge P form.begins) (HasTaken form) before line result new
 taken {P = P} form before line old new found (Ok u) layout (at, holds) same (none, next_is) =

@@ -4,8 +4,8 @@ use Rattle.std.proofs.lemmas.List.Sums.{count_by-le-length}
 use Rattle.sp_word.specs.Word.{is_layout, max_dist}
 use Rattle.sp_text.specs.First.{fault_at_end}
 use Rattle.sp_answer.specs.Table.{TreeTable, IsTable}
-use Rattle.sp_forest.specs.ForestTable.{ForestTable, IsForestTable}
-use Rattle.sp_forest.proofs.RisingRows.{few_rows}
+use Rattle.sp_answer.specs.ForestTable.{ForestTable, IsForestTable}
+use Rattle.sp_answer.proofs.ForestRows.{few_rows}
 use Rattle.sp_files.specs.TreeText.{tree_text}
 use Rattle.sp_files.specs.ForestText.{is_source, source_count, forest_text, file_text, IsFile}
 use Rattle.sp_files.specs.Spelling.{Content, OfTree, OfForest, place, tree_judge, forest_judge}

@@ -4,7 +4,7 @@ use Rattle.std.specs.List.{flat_map, count_by}
 use Rattle.sp_word.specs.Word.{Word, Unreached, Pair}
 use Rattle.sp_text.specs.Numeral.{number_text}
 use Rattle.sp_files.specs.TreeText.{end_text}
-use Rattle.sp_forest.specs.ForestTable.{Row, ForestTable, IsForestTable}
+use Rattle.sp_answer.specs.ForestTable.{Row, ForestTable, IsForestTable}
 
 -- This is the line `p near N K`.
 abbrev pub problem_text : (n count : ℕ) → List ℕ

@@ -6,7 +6,7 @@ use Rattle.sp_text.specs.First.{IsSilent}
 use Rattle.sp_files.specs.declared.lines.RowNumbers.{RowNumbers}
 use Rattle.sp_files.specs.declared.lines.Line.{Line}
 use Rattle.sp_files.specs.declared.lines.Line.TheVariants.{Problem, Row, End}
-use Rattle.sp_files.specs.declared.content.Place.{Place}
+use Rattle.sp_files.specs.declared.content.RowProgress.{RowProgress}
 use Rattle.sp_files.specs.declared.taking.Spelled.{Spelled}
 use Rattle.sp_files.specs.declared.taking.Spelled.TheVariants.{Nothing, Open, Whole}
 use Rattle.sp_files.specs.Spelling.{Content, in_range, second_range, problem_fault, root_fault, row_fault, place, fault, missing_of, spelling_state, line_in, judge}
@@ -27,7 +27,7 @@ root_silent : (n : ℕ) (root : Option ℕ) → root_fault n root ≢ Some Read
 root_silent n None h = cc
 root_silent n (Some root) h = range_silent 83 1 n root None none_silent h
 
-row_silent : (P : ℕ) (at : Place) (row : RowNumbers) → row_fault P at row ≢ Some Read
+row_silent : (P : ℕ) (at : RowProgress) (row : RowNumbers) → row_fault P at row ≢ Some Read
 row_silent P at row = range_silent 86 _ at.n row.vertex _ (range_silent 68 0 _ row.dist _ (range_silent 80 0 at.n row.pred _ (root_silent at.n row.root)))
 
 problem_silent : (P : ℕ) (near : Bool) (n second : ℕ) → problem_fault P near n second ≢ Some Read

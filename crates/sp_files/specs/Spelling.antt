@@ -9,11 +9,11 @@ use Rattle.sp_text.specs.Numeral.{capped_value}
 use Rattle.sp_text.specs.Text.{is_word}
 use Rattle.sp_text.specs.First.{Judge}
 use Rattle.sp_answer.specs.Table.{TreeTable, with_row, last_vertex}
-use Rattle.sp_forest.specs.ForestTable.{ForestTable, with_row as with_rooted_row, last_vertex as last_rooted}
+use Rattle.sp_answer.specs.ForestTable.{ForestTable, with_row as with_rooted_row, last_vertex as last_rooted}
 use Rattle.sp_files.specs.declared.lines.RowNumbers.{RowNumbers}
 use Rattle.sp_files.specs.declared.lines.Line.{Line}
 use Rattle.sp_files.specs.declared.lines.Line.TheVariants.{Problem, Row, End}
-use Rattle.sp_files.specs.declared.content.Place.{Place}
+use Rattle.sp_files.specs.declared.content.RowProgress.{RowProgress}
 use Rattle.sp_files.specs.declared.taking.Spelled.{Spelled}
 use Rattle.sp_files.specs.declared.taking.Spelled.TheVariants.{Nothing, Open, Whole}
 use Rattle.sp_files.specs.Fields.{fields}
@@ -77,7 +77,7 @@ pub data Content : Type 0 where
   OfForest : (sources : ℕ) → ForestTable → Content
 
 -- How far the rows have come: whether they are those of a forest, the number of vertices, the last vertex, and how many they are.
-abbrev pub place : Content → Place
+abbrev pub place : Content → RowProgress
 place (OfTree t) = record { rooted = false; n = t.n; last = last_vertex t.rows; rows = length t.rows }
 place (OfForest sources f) = record { rooted = true; n = f.n; last = last_rooted f.rows; rows = length f.rows }
 
@@ -128,7 +128,7 @@ root_fault n None = None
 root_fault n (Some root) = in_range 83 1 n root None
 
 -- V is above the vertex before and up to N, D up to the greatest distance, P up to N, and S a vertex.
-abbrev pub row_fault : (P : ℕ) → Place → RowNumbers → Option Kind
+abbrev pub row_fault : (P : ℕ) → RowProgress → RowNumbers → Option Kind
 row_fault P at row = in_range 86 (at.last + 1) at.n row.vertex (in_range 68 0 (max_dist P) row.dist (in_range 80 0 at.n row.pred (root_fault at.n row.root)))
 
 -- This is the fault of a line, given what the lines before it spell, and whether `p near` and `p spt` may begin the file. A line of

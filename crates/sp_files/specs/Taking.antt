@@ -7,7 +7,7 @@ use Rattle.sp_text.specs.declared.faults.Kind.TheVariants.{Memory}
 use Rattle.sp_answer.specs.Table.{TreeTable, IsTable}
 use Rattle.sp_files.specs.declared.lines.RowNumbers.{RowNumbers}
 use Rattle.sp_files.specs.declared.lines.Line.{Line}
-use Rattle.sp_files.specs.declared.content.Place.{Place}
+use Rattle.sp_files.specs.declared.content.RowProgress.{RowProgress}
 use Rattle.sp_files.specs.declared.forests.file.ForestFile.{ForestFile}
 use Rattle.sp_files.specs.declared.either.TreeOrForest.{TreeOrForest}
 use Rattle.sp_files.specs.declared.either.TreeOrForest.TheVariants.{Tree, Forest}
@@ -18,7 +18,7 @@ use Rattle.sp_files.specs.ForestText.{file_text, IsFile}
 use Rattle.sp_files.specs.Spelling.{Content, OfTree, OfForest, place, next, fault, is_row}
 
 -- A kind of value that a file may hold: whether `p near` and `p spt` may begin the file, and the content that a value is.
-pub record Form (V : Type 0) : Type 0 where
+pub record FileForm (V : Type 0) : Type 0 where
   pub begins : Bool → Bool
   pub content : V → Content
 
@@ -32,15 +32,15 @@ either_content (Tree tree) = OfTree tree
 either_content (Forest file) = forest_content file
 
 -- A file may hold a tree.
-abbrev pub tree_form : Form TreeTable
+abbrev pub tree_form : FileForm TreeTable
 tree_form = record { begins = not; content = λ tree. OfTree tree }
 
 -- A file may hold a forest.
-abbrev pub forest_form : {P : ℕ} → Form (ForestFile P)
+abbrev pub forest_form : {P : ℕ} → FileForm (ForestFile P)
 forest_form = record { begins = λ near. near; content = λ file. forest_content file }
 
 -- A file may hold either.
-abbrev pub either_form : {P : ℕ} → Form (TreeOrForest P)
+abbrev pub either_form : {P : ℕ} → FileForm (TreeOrForest P)
 either_form = record { begins = λ near. true; content = λ value. either_content value }
 
 -- This is the text of a content.
@@ -59,7 +59,7 @@ IsRootWithin n None = Unit {0}
 IsRootWithin n (Some root) = IsVertex n root
 
 -- A row with these numbers may come next.
-pub record IsRowWithin (P : ℕ) (at : Place) (row : RowNumbers) : Type 0 where
+pub record IsRowWithin (P : ℕ) (at : RowProgress) (row : RowNumbers) : Type 0 where
   pub above : at.last < row.vertex
   pub most : row.vertex ≤ at.n
   pub dist : row.dist ≤ max_dist P
@@ -67,7 +67,7 @@ pub record IsRowWithin (P : ℕ) (at : Place) (row : RowNumbers) : Type 0 where
   pub root : IsRootWithin at.n row.root
 
 -- This is the content so far of what a reader keeps.
-abbrev pub spelled_by : {V : Type 0} → Form V → Spelled V → Spelled Content
+abbrev pub spelled_by : {V : Type 0} → FileForm V → Spelled V → Spelled Content
 spelled_by form Nothing = Nothing
 spelled_by form (Open value) = Open (form.content value)
 spelled_by form (Whole value) = Whole (form.content value)

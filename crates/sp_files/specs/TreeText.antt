@@ -3,7 +3,7 @@ use Rattle.std.specs.Prelude.{ℕ, List, [], ◌++◌, length, codes}
 use Rattle.std.specs.List.{flat_map}
 use Rattle.sp_word.specs.Word.{Word, Unreached, Pair}
 use Rattle.sp_text.specs.Numeral.{number_text}
-use Rattle.sp_answer.specs.Table.{TreeTable}
+use Rattle.sp_answer.specs.Table.{TreeTable, rows_from}
 
 -- This is the line `p spt N S`.
 abbrev pub problem_text : (n source : ℕ) → List ℕ
@@ -17,6 +17,10 @@ reached_text vertex (Pair d p) = codes "v" ++ number_text vertex ++ number_text 
 -- This is the line of a row.
 abbrev pub row_text : ℕ × Word → List ℕ
 row_text row = reached_text row.0 row.1
+
+-- These are the lines of the reached vertices among those from `first` on, which have these words.
+abbrev pub words_text : (first : ℕ) → List Word → List ℕ
+words_text first words = flat_map row_text (rows_from first words)
 
 -- This is the line `e R`.
 abbrev pub end_text : (count : ℕ) → List ℕ

@@ -9,8 +9,8 @@ use sp_text::push_number;
 /// No line has more bytes than this.
 pub(crate) const LINE_ROOM: usize = 86;
 
-/// Appends the last line of a tree or a forest with `count` rows.
-pub(crate) fn push_end(block: &mut Block, count: u64)
+// Appends the last line of a tree or a forest with `count` rows.
+fn push_end(block: &mut Block, count: u64)
     requires { length block.old + LINE_ROOM ≤ 8192 }
     ensures { block.new ≡ block.old ++ end_text count }
 {

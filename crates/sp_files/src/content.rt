@@ -2,14 +2,14 @@
 ghost use Rattle.std.specs.Prelude.{◌≡◌, ◌≤◌, true, OnOk, is_some};
 ghost use Rattle.sp_word.specs.Word.{is_layout, max_pred};
 ghost use Rattle.sp_files.specs.Spelling.{place, begin, add, second_range};
-ghost use Rattle.sp_files.specs.Taking.{Form, IsRowWithin};
+ghost use Rattle.sp_files.specs.Taking.{FileForm, IsRowWithin};
 
 use crate::lines::RowNumbers;
 use std::alloc::{AllocError, Global};
 
 /// How far the rows of a file have come.
 #[derive(Clone, Copy)]
-pub struct Place {
+pub struct RowProgress {
     /// Whether they are those of a forest, which have roots.
     pub rooted: bool,
     /// The number of vertices.
@@ -23,7 +23,7 @@ pub struct Place {
 /// A value that a file may hold, for words of `P` bits of predecessor.
 pub trait FileContent<const P: u32>: Drop {
     /// Which first lines may begin the file, and what the value says.
-    ghost form: { Form Self };
+    ghost form: { FileForm Self };
 
     /// Returns whether the line `p near`, or else `p spt`, may begin the file.
     fn begins(near: bool) -> bool
@@ -40,7 +40,7 @@ pub trait FileContent<const P: u32>: Drop {
         ensures { form.content result ≡ begin near n second };
 
     /// Returns how far the rows have come.
-    fn place(&self) -> Place
+    fn place(&self) -> RowProgress
         ensures { result ≡ place (form.content self.now) };
 
     /// Appends a row.

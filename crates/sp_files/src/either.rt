@@ -1,11 +1,10 @@
 //! A tree, a forest with the number of its sources, or either, as a file holds it.
 ghost use Rattle.sp_files.specs.Taking.{tree_form, forest_form, either_form};
 
-use crate::content::{FileContent, Place};
+use crate::content::{FileContent, RowProgress};
 use crate::forests::file::ForestFile;
 use crate::lines::RowNumbers;
-use sp_answer::Tree;
-use sp_forest::Forest;
+use sp_answer::{Forest, Tree};
 use std::alloc::{AllocError, Global};
 
 /// What a tree's or a forest's file holds.
@@ -26,8 +25,8 @@ impl<const P: u32> FileContent<P> for Tree<P> {
         Tree::bare(alloc, n, second)
     }
 
-    fn place(&self) -> Place {
-        Place {
+    fn place(&self) -> RowProgress {
+        RowProgress {
             rooted: false,
             n: self.n(),
             last: self.last(),
@@ -56,8 +55,8 @@ impl<const P: u32> FileContent<P> for ForestFile<P> {
         }
     }
 
-    fn place(&self) -> Place {
-        Place {
+    fn place(&self) -> RowProgress {
+        RowProgress {
             rooted: true,
             n: self.forest.n(),
             last: self.forest.last(),
@@ -89,7 +88,7 @@ impl<const P: u32> FileContent<P> for TreeOrForest<P> {
         }
     }
 
-    fn place(&self) -> Place {
+    fn place(&self) -> RowProgress {
         match self {
             TreeOrForest::Tree(tree) => tree.place(),
             TreeOrForest::Forest(file) => file.place(),

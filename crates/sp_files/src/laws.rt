@@ -5,7 +5,7 @@ ghost use Rattle.sp_text.specs.First.{fault_at_end};
 ghost use Rattle.sp_answer.specs.Table.{TreeTable, IsTable};
 ghost use Rattle.sp_files.specs.TreeText.{tree_text};
 ghost use Rattle.sp_files.specs.Spelling.{tree_judge, forest_judge};
-ghost use Rattle.sp_forest.specs.ForestTable.{ForestTable, IsForestTable};
+ghost use Rattle.sp_answer.specs.ForestTable.{ForestTable, IsForestTable};
 ghost use Rattle.sp_files.specs.ForestText.{forest_text, source_count, file_text, IsFile};
 ghost use Rattle.sp_files.specs.TreeOrForest.{is_near};
 

@@ -9,8 +9,11 @@ mod fields;
 mod forests;
 mod laws;
 mod lines;
+mod pages;
 mod pair_lines;
 mod reading;
+mod row_lines;
+mod rows;
 mod taking;
 mod trees;
 
@@ -25,11 +28,8 @@ pub use pair_lines::send_pair;
 pub use reading::{
     FileReader, ForestReader, TreeReader, read_forest, read_tree, read_tree_or_forest,
 };
-pub use sp_answer::{Tree, WordTree};
-pub use sp_forest::Forest;
+pub use sp_answer::{Forest, Tree, WordTree};
 pub use trees::blocks::TreeBlocks;
-pub use trees::pages::write_tree_in_pages;
-pub use trees::text::text_of;
-pub use trees::word_pages::{text_of_words, write_words_in_pages};
+pub use trees::text::{text_of, text_of_words};
 pub use trees::word_sharing::write_words_by;
-pub use trees::writing::{write_far, write_tree};
+pub use trees::writing::{write_far, write_tree, write_tree_in_pages, write_words_in_pages};

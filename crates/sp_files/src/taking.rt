@@ -5,7 +5,7 @@ ghost use Rattle.sp_files.specs.declared.lines.Line.TheVariants.{Problem, Row, E
 ghost use Rattle.sp_files.specs.Spelling.{second_range, root_fault, row_fault, is_whole};
 ghost use Rattle.sp_files.specs.Taking.{IsRootWithin, IsRowWithin, spelled_by, Answers};
 
-use crate::content::{FileContent, Place};
+use crate::content::{FileContent, RowProgress};
 use crate::fields::in_range;
 use crate::lines::{Line, RowNumbers, read_line};
 use sp_text::{Kind, LineTaker};
@@ -51,7 +51,7 @@ fn check_root(n: u64, root: Option<u64>) -> Result<(), Kind>
 }
 
 // Returns `Ok` if a row may come next, and otherwise its fault.
-fn check_row<const P: u32>(place: Place, row: RowNumbers) -> Result<(), Kind>
+fn check_row<const P: u32>(place: RowProgress, row: RowNumbers) -> Result<(), Kind>
     requires { is_layout P ≡ true }
     ensures within { IfOk result (λ u. IsRowWithin P place row) }
     ensures clean { IfOk result (λ u. row_fault P place row ≡ None) }

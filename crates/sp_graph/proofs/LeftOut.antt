@@ -8,7 +8,7 @@ use Rattle.sp_word.specs.History.{Table}
 use Rattle.sp_paths.specs.declared.arc.Arc.{Arc}
 use Rattle.sp_paths.specs.Paths.{HasArc, IsLeftOut}
 use Rattle.sp_graph.specs.LeftOut.{network, IsLeastLeftOut, smaller_of, LeadsOut}
-use Rattle.sp_paths.proofs.Run.{not_both}
+use Rattle.sp_paths.proofs.Core.{not_both}
 
 -- an arc of the arcs so far and one more
 pub arc_more : (n : ℕ) (arcs : List Arc) (arc : Arc) (u v l : ℕ) → HasArc (network n (arcs ++ arc ∷ [])) u v l → HasArc (network n arcs) u v l ⊎ (arc ≡ record { tail = u; head = v; len = l })

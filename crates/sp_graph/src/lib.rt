@@ -19,11 +19,11 @@ mod sharing;
 mod sharing_ranges;
 mod sharing_rising;
 mod short_rows;
-mod words;
+mod word_table;
 
 pub use graph::{Graph, RowEnds};
 pub use lengths::Lengths;
 pub use marks::Mark;
 pub use rows::Rows;
 pub use sharing::useful_workers;
-pub use words::{left_out, look_up};
+pub use word_table::{left_out, look_up};

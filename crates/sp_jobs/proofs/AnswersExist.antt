@@ -8,7 +8,7 @@ use Rattle.sp_word.specs.History.{Table}
 use Rattle.sp_paths.specs.Paths.{Graph, IsGraph, IsVertex, IsTreePair, IsTreeWord, IsTree, IsFar, EndsInTree}
 use Rattle.sp_paths.specs.Theorems.{HasTree}
 use Rattle.sp_paths.proofs.Walks.{arc_in}
-use Rattle.sp_paths.proofs.TheoremProofs.{far_is_meant}
+use Rattle.sp_paths.proofs.Only.{far_is_meant}
 use Rattle.sp_paths.proofs.Existence.{trees_exist}
 use Rattle.sp_answer.specs.Table.{TreeTable, tree_of, table_of, rows_from, HasPredWithin, IsTable}
 use Rattle.sp_answer.proofs.RisingRows.{tree_is_table, words_are}

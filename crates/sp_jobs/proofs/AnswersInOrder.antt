@@ -5,7 +5,7 @@ use Rattle.std.specs.List.{count_by}
 use Rattle.std.proofs.lemmas.List.Concat.{flat_map-append}
 use Rattle.std.proofs.lemmas.List.Sums.{sum_by-cons}
 use Rattle.sp_paths.specs.Paths.{Graph}
-use Rattle.sp_jobs.specs.Told.{Told, IsDue, AreDue, count_of, far_of, text_of, told_text}
+use Rattle.sp_jobs.specs.Told.{WrittenAnswer, IsDue, AreDue, count_of, far_of, text_of, told_text}
 use Rattle.sp_jobs.specs.Batch.{TreeAnswer, TreeOf, FarFrom, IsTreeAnswer, AreTreeAnswers, tree_answer_text, batch_text, is_far}
 use Rattle.sp_jobs.specs.Trees.{told_of_tree, IsTreeTold}
 
@@ -30,18 +30,18 @@ far_within (FarFrom s v) = omega arith
 pub found_due : (P : ℕ) (limit : Option ℕ) (g : Graph) (s : ℕ) (answer : TreeAnswer) → IsTreeAnswer P limit g s answer → IsDue (λ s told. IsTreeTold P limit g s told) s (told_of_tree answer)
 found_due P limit g s answer is = record { answers = record { answer = answer; is = is; tells = refl }; few = omega arith; far = far_within answer }
 
-pub told_due : (P : ℕ) (limit : Option ℕ) (g : Graph) (s : ℕ) (told : Told) → IsTreeTold P limit g s told → IsDue (λ s told. IsTreeTold P limit g s told) s told
+pub told_due : (P : ℕ) (limit : Option ℕ) (g : Graph) (s : ℕ) (told : WrittenAnswer) → IsTreeTold P limit g s told → IsDue (λ s told. IsTreeTold P limit g s told) s told
 told_due P limit g s told h = rw h.tells (found_due P limit g s h.answer h.is)
 
 -- The answers, and what they count.
-pub record AreTold (P : ℕ) (limit : Option ℕ) (g : Graph) (sources : List ℕ) (all : List Told) : Type 0 where
+pub record AreTold (P : ℕ) (limit : Option ℕ) (g : Graph) (sources : List ℕ) (all : List WrittenAnswer) : Type 0 where
   pub answers : List TreeAnswer
   pub are : AreTreeAnswers P limit g sources answers
   pub text : told_text all ≡ batch_text answers
   pub count : sum_by count_of all ≡ length answers
   pub far : sum_by far_of all ≡ count_by is_far answers
 
-answer_more : (P : ℕ) (limit : Option ℕ) (g : Graph) (s : ℕ) (sources : List ℕ) (told : Told) (all : List Told) → IsTreeTold P limit g s told → AreTold P limit g sources all → AreTold P limit g (s ∷ sources) (told ∷ all)
+answer_more : (P : ℕ) (limit : Option ℕ) (g : Graph) (s : ℕ) (sources : List ℕ) (told : WrittenAnswer) (all : List WrittenAnswer) → IsTreeTold P limit g s told → AreTold P limit g sources all → AreTold P limit g (s ∷ sources) (told ∷ all)
 answer_more P limit g s sources told all first more =
     let answer = first.answer in
     let counts : told.count ≡ 1 = ap count_of first.tells in
@@ -55,7 +55,7 @@ answer_more P limit g s sources told all first more =
       far = sum_by-cons far_of told all ∙ omega (arith, fars, more.far, sum_by-cons (λ (b : TreeAnswer). cond (is_far b) 1 0) answer more.answers);
     }
 
-pub answers_told : (P : ℕ) (limit : Option ℕ) (g : Graph) (sources : List ℕ) (all : List Told) → AreDue (λ s told. IsTreeTold P limit g s told) sources all → AreTold P limit g sources all
+pub answers_told : (P : ℕ) (limit : Option ℕ) (g : Graph) (sources : List ℕ) (all : List WrittenAnswer) → AreDue (λ s told. IsTreeTold P limit g s told) sources all → AreTold P limit g sources all
 answers_told P limit g [] [] are = record { answers = []; are = tt; text = refl; count = refl; far = refl }
 answers_told P limit g [] (told ∷ all) are = absurd are
 answers_told P limit g (s ∷ sources) [] are = absurd are

@@ -12,11 +12,11 @@ use Rattle.std.proofs.lemmas.Map.Made.{length-from_keys}
 use Rattle.std.proofs.lemmas.Map.Views.{list_any-from_Contains, Contains-from_any}
 use Rattle.sp_word.specs.Word.{Word, Unreached, Pair, max_dist}
 use Rattle.sp_paths.specs.Paths.{Graph, IsVertex}
-use Rattle.sp_forest.specs.Forests.{IsForestWord}
-use Rattle.sp_forest.specs.Roots.{LeadsBack}
-use Rattle.sp_forest.specs.ForestTable.{Row, ForestTable, IsForestTable, AreRows, row_in, word_of, table_of}
-use Rattle.sp_forest.specs.Nearest.{IsForestUpTo, IsForestAnswer}
-use Rattle.sp_forest.proofs.Walks.{any_none, source_nearest}
+use Rattle.sp_paths.specs.Forests.{IsForestWord}
+use Rattle.sp_paths.specs.Roots.{LeadsBack}
+use Rattle.sp_answer.specs.ForestTable.{Row, ForestTable, IsForestTable, AreRows, row_in, word_of, table_of}
+use Rattle.sp_answer.specs.Nearest.{IsForestUpTo, IsForestAnswer}
+use Rattle.sp_paths.proofs.ForestWalks.{any_none, source_nearest}
 use Rattle.sp_files.specs.ForestText.{is_first, is_source, source_count}
 
 -- ## Rows without a predecessor

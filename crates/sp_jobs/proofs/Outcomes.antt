@@ -15,7 +15,7 @@ use Rattle.sp_jobs.specs.declared.answers.Summary.{Summary}
 use Rattle.sp_jobs.specs.declared.answers.BatchError.{BatchError}
 use Rattle.sp_jobs.specs.declared.answers.BatchError.TheVariants.{Gr, Ss, Targets, Pairs, NoSuchVertex, Memory, Write}
 use Rattle.sp_jobs.specs.declared.listing.Listed.{Listed}
-use Rattle.sp_jobs.specs.Listing.{Asked, numbers_of}
+use Rattle.sp_jobs.specs.Listing.{AskedList, numbers_of}
 use Rattle.sp_jobs.specs.Network.{GraphFault, MayReadGraph}
 use Rattle.sp_jobs.specs.Answered.{Wrote, IsUnwritten, IsEnd, JobDone, AreRead, AreAnswered, IsFileFault, IsGraphFault, IsListFault, JobAnswered, JobOfSome, MayFail}
 
@@ -51,16 +51,16 @@ by_end Says (Err (Targets e)) is ok vertex memory write = absurd is
 by_end Says (Err (Pairs e)) is ok vertex memory write = absurd is
 
 -- For what was read that was done.
-pub done_for : {P : ℕ} {way : Direction} {gr_text : List ℕ} {asked : Asked} {files : GrFile × Listed} {Done : Graph → List ℕ → Type 0} → AreRead P way gr_text asked files → Done (directed way (graph_of files.0)) (numbers_of files.1) → AreAnswered P way gr_text asked Done
+pub done_for : {P : ℕ} {way : Direction} {gr_text : List ℕ} {asked : AskedList} {files : GrFile × Listed} {Done : Graph → List ℕ → Type 0} → AreRead P way gr_text asked files → Done (directed way (graph_of files.0)) (numbers_of files.1) → AreAnswered P way gr_text asked Done
 done_for {way = way} {files = files} read done = record { graph = directed way (graph_of files.0); sources = numbers_of files.1; spells_graph = read.spells_graph; are_asked = read.are_asked; done = done }
 
 -- What is done for a graph and sources is the answer to a text that spells the graph, and to what asks for the sources.
-pub answered : {P : ℕ} {way : Direction} (Done : JobDone) {wrote : Wrote} {gr_text : List ℕ} {asked : Asked} (NoGraph : GraphFault → Type 0) (NoList : DimacsError → Type 0) (result : Result Summary BatchError) → IsLate result
+pub answered : {P : ℕ} {way : Direction} (Done : JobDone) {wrote : Wrote} {gr_text : List ℕ} {asked : AskedList} (NoGraph : GraphFault → Type 0) (NoList : DimacsError → Type 0) (result : Result Summary BatchError) → IsLate result
     → AreAnswered P way gr_text asked (λ graph sources. Done wrote graph sources result) → JobAnswered P way gr_text asked NoGraph NoList Done wrote result
 answered {P} {way} Done {wrote} {gr_text} {asked} NoGraph NoList result is =
     by_end (λ r. AreAnswered P way gr_text asked (λ graph sources. Done wrote graph sources r) → JobAnswered P way gr_text asked NoGraph NoList Done wrote r) result is (λ summary are. are) (λ v role are. are) (λ are. are) (λ are. are)
 
-pub of_some : {P : ℕ} {way : Direction} (Done : JobDone) {wrote : Wrote} (asked : List ℕ → Asked) (gr_text ss_text : List ℕ) (result : Result Summary BatchError) → IsLate result
+pub of_some : {P : ℕ} {way : Direction} (Done : JobDone) {wrote : Wrote} (asked : List ℕ → AskedList) (gr_text ss_text : List ℕ) (result : Result Summary BatchError) → IsLate result
     → AreAnswered P way gr_text (asked ss_text) (λ graph sources. Done wrote graph sources result) → JobOfSome P way asked Done wrote result
 of_some {P} {way} Done {wrote} asked gr_text ss_text result is =
     by_end (λ r. AreAnswered P way gr_text (asked ss_text) (λ graph sources. Done wrote graph sources r) → JobOfSome P way asked Done wrote r) result is
@@ -90,13 +90,13 @@ at_exit : {e : BatchError} (Says : Result Summary BatchError → Type 0) (result
 at_exit Says result exit says = let p = err_from_is_err_and result exit in rw (p.1, p.2) says
 
 -- A fault of a text that a `?` returns is the answer to the texts, where nothing was written.
-pub refused : (Done : JobDone) (P : ℕ) (way : Direction) (gr_text : List ℕ) (asked : Asked) (NoGraph : GraphFault → Type 0) (NoList : DimacsError → Type 0) (wrote : Wrote) (e : BatchError) (result : Result Summary BatchError)
+pub refused : (Done : JobDone) (P : ℕ) (way : Direction) (gr_text : List ℕ) (asked : AskedList) (NoGraph : GraphFault → Type 0) (NoList : DimacsError → Type 0) (wrote : Wrote) (e : BatchError) (result : Result Summary BatchError)
     → IsErrAnd result (λ y. y ≡ e) → IsFileFault NoGraph (IsListFault P way gr_text NoList) e → IsUnwritten wrote → JobAnswered P way gr_text asked NoGraph NoList Done wrote result
 refused Done P way gr_text asked NoGraph NoList wrote e result exit is same =
     let Says : Result Summary BatchError → Type 0 = λ r. JobAnswered P way gr_text asked NoGraph NoList Done wrote r in
     at_exit Says result exit (by_fault (λ f. Says (Err f)) NoGraph (IsListFault P way gr_text NoList) e is (λ f no. (no, same)) (λ f no. (no.0, no.1, same)))
 
-pub refused_some : (Done : JobDone) (P : ℕ) (way : Direction) (asked : List ℕ → Asked) (OfGraph : GraphFault → Type 0) (OfSources : DimacsError → Type 0) (wrote : Wrote) (e : BatchError) (result : Result Summary BatchError)
+pub refused_some : (Done : JobDone) (P : ℕ) (way : Direction) (asked : List ℕ → AskedList) (OfGraph : GraphFault → Type 0) (OfSources : DimacsError → Type 0) (wrote : Wrote) (e : BatchError) (result : Result Summary BatchError)
     → IsErrAnd result (λ y. y ≡ e) → IsFileFault OfGraph OfSources e → IsUnwritten wrote → JobOfSome P way asked Done wrote result
 refused_some Done P way asked OfGraph OfSources wrote e result exit is same =
     let Says : Result Summary BatchError → Type 0 = λ r. JobOfSome P way asked Done wrote r in

@@ -9,7 +9,7 @@ use Rattle.sp_paths.specs.Paths.{Graph, IsGraph, IsVertex, PairAnswer}
 use Rattle.sp_paths.specs.Bags.{AreSame}
 use Rattle.sp_paths.proofs.Existence.{pairs_exist}
 use Rattle.sp_paths.proofs.SameArcs.{same_arcs_same_answers}
-use Rattle.sp_jobs.specs.Told.{Told, AreDue, count_of, far_of, text_of, told_text, HasBegunFirst}
+use Rattle.sp_jobs.specs.Told.{WrittenAnswer, AreDue, count_of, far_of, text_of, told_text, HasBegunFirst}
 use Rattle.sp_jobs.proofs.ToldInOrder.{all_behind}
 use Rattle.sp_files.specs.PairText.{pair_text}
 use Rattle.sp_jobs.specs.PairAnswers.{ArePairAnswers, pairs_text, is_too_far, HasBegunPairs}
@@ -32,14 +32,14 @@ far_both first second = sum_by-append (λ (a : PairAnswer). cond (is_too_far a) 
 -- ## What rows tell
 
 -- The answers to the pairs of a matrix, and what they count.
-pub record AreTold (P : ℕ) (g : Graph) (sources targets : List ℕ) (all : List Told) : Type 0 where
+pub record AreTold (P : ℕ) (g : Graph) (sources targets : List ℕ) (all : List WrittenAnswer) : Type 0 where
   pub answers : List PairAnswer
   pub are : ArePairAnswers P g (matrix_of sources targets) answers
   pub text : told_text all ≡ pairs_text (matrix_of sources targets) answers
   pub count : sum_by count_of all ≡ length (matrix_of sources targets)
   pub far : sum_by far_of all ≡ count_by is_too_far answers
 
-row_more : (P : ℕ) (g : Graph) (targets : List ℕ) (s : ℕ) (sources : List ℕ) (told : Told) (all : List Told) → IsRowTold P g targets s told → AreTold P g sources targets all → AreTold P g (s ∷ sources) targets (told ∷ all)
+row_more : (P : ℕ) (g : Graph) (targets : List ℕ) (s : ℕ) (sources : List ℕ) (told : WrittenAnswer) (all : List WrittenAnswer) → IsRowTold P g targets s told → AreTold P g sources targets all → AreTold P g (s ∷ sources) targets (told ∷ all)
 row_more P g targets s sources told all first more =
     let row = pairs_from s targets in
     let rest = matrix_of sources targets in
@@ -54,7 +54,7 @@ row_more P g targets s sources told all first more =
       far = sum_by-cons far_of told all ∙ omega (arith, fars, more.far, far_both first.answers more.answers);
     }
 
-pub rows_told : (P : ℕ) (g : Graph) (targets sources : List ℕ) (all : List Told) → AreDue (λ s told. IsRowTold P g targets s told) sources all → AreTold P g sources targets all
+pub rows_told : (P : ℕ) (g : Graph) (targets sources : List ℕ) (all : List WrittenAnswer) → AreDue (λ s told. IsRowTold P g targets s told) sources all → AreTold P g sources targets all
 rows_told P g targets [] [] are = record { answers = []; are = tt; text = refl; count = refl; far = refl }
 rows_told P g targets [] (told ∷ all) are = absurd are
 rows_told P g targets (s ∷ sources) [] are = absurd are

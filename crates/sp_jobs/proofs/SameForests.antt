@@ -6,9 +6,9 @@ use Rattle.sp_word.specs.Word.{Word, Pair, Unreached, max_dist}
 use Rattle.sp_paths.specs.Paths.{Graph, IsVertex}
 use Rattle.sp_paths.specs.Bags.{AreSame}
 use Rattle.sp_paths.proofs.SameArcs.{same_arcs_same_answers}
-use Rattle.sp_forest.specs.Forests.{HasWalkFromAny, IsNearest, IsPredecessor, IsForestWord, IsForest, IsNear, IsForestWithin, IsBeyond, IsFar}
-use Rattle.sp_forest.specs.ForestTable.{ForestTable, table_of}
-use Rattle.sp_forest.specs.Nearest.{IsForestUpTo, HasRoots, IsForestAnswer}
+use Rattle.sp_paths.specs.Forests.{HasWalkFromAny, IsNearest, IsPredecessor, IsForestWord, IsForest, IsNear, IsForestWithin, IsBeyond, IsFar}
+use Rattle.sp_answer.specs.ForestTable.{ForestTable, table_of}
+use Rattle.sp_answer.specs.Nearest.{IsForestUpTo, HasRoots, IsForestAnswer}
 
 turned : (g h : Graph) → AreSame g h → AreSame h g
 turned g h e = record { n = sym e.n; there = e.back; back = e.there }

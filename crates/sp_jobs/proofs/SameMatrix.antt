@@ -10,7 +10,7 @@ use Rattle.sp_jobs.specs.declared.answers.BatchError.{BatchError}
 use Rattle.sp_jobs.specs.declared.answers.BatchError.TheVariants.{Gr, Ss, Targets, Pairs, NoSuchVertex, Memory, Write}
 use Rattle.sp_jobs.specs.Places.{AreNumbered}
 use Rattle.sp_jobs.specs.Answered.{Wrote, wrote_by}
-use Rattle.sp_jobs.specs.Listing.{Asked, AreAsked}
+use Rattle.sp_jobs.specs.Listing.{AskedList, AreAsked}
 use Rattle.sp_jobs.proofs.Files.{itself}
 use Rattle.sp_jobs.proofs.Outcomes.{by_end, late}
 use Rattle.sp_jobs.specs.Told.{AreAllAnswered, HasBegunFirst}
@@ -61,12 +61,12 @@ module _ {W : Type 0} (P : ℕ) (g : Graph) (sources targets : List ℕ) (device
 
 module _ (P : ℕ) (targets : List ℕ) (wrote : Wrote) (graph : Graph) (sources : List ℕ) where
   -- It is what is done for a list that asks for the targets.
-  pub to_asked : (ends : Asked) (result : Result Summary BatchError) → IsMatrix P targets wrote graph sources result → AreAsked P ends targets → IsMatrixTo P ends wrote graph sources result
+  pub to_asked : (ends : AskedList) (result : Result Summary BatchError) → IsMatrix P targets wrote graph sources result → AreAsked P ends targets → IsMatrixTo P ends wrote graph sources result
   to_asked ends result is are =
       by_end (λ r. IsMatrix P targets wrote graph sources r → IsMatrixTo P ends wrote graph sources r) result (late _ _ _ _ _ result is)
       (λ summary done. (targets, are, done)) (λ v role done. (targets, are, done)) (λ done. (targets, are, done)) (λ done. (targets, are, done)) is
 
-  pub to_some : (ends : List ℕ → Asked) (text : List ℕ) (result : Result Summary BatchError) → IsMatrix P targets wrote graph sources result → AreAsked P (ends text) targets → IsMatrixToSome P ends wrote graph sources result
+  pub to_some : (ends : List ℕ → AskedList) (text : List ℕ) (result : Result Summary BatchError) → IsMatrix P targets wrote graph sources result → AreAsked P (ends text) targets → IsMatrixToSome P ends wrote graph sources result
   to_some ends text result is are =
       by_end (λ r. IsMatrix P targets wrote graph sources r → IsMatrixToSome P ends wrote graph sources r) result (late _ _ _ _ _ result is)
       (λ summary done. (text, targets, are, done)) (λ v role done. (text, targets, are, done)) (λ done. (text, targets, are, done)) (λ done. (text, targets, are, done)) is

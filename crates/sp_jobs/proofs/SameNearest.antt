@@ -7,7 +7,7 @@ use Rattle.sp_paths.specs.Bags.{AreSame}
 use Rattle.sp_device.specs.declared.devices.Write.{Ghosts as Writer}
 use Rattle.sp_answer.specs.declared.answer.RunError.{RunError}
 use Rattle.sp_answer.specs.declared.answer.RunError.TheVariants as run
-use Rattle.sp_forest.specs.Nearest.{IsRefusal}
+use Rattle.sp_answer.specs.Nearest.{IsRefusal}
 use Rattle.sp_jobs.specs.declared.answers.Summary.{Summary}
 use Rattle.sp_jobs.specs.declared.answers.BatchError.{BatchError}
 use Rattle.sp_jobs.specs.declared.answers.BatchError.TheVariants.{Gr, Ss, Targets, Pairs, NoSuchVertex, Memory, Write}

@@ -15,7 +15,7 @@ use Rattle.sp_jobs.specs.declared.answers.BatchError.{BatchError}
 use Rattle.sp_jobs.specs.declared.answers.BatchError.TheVariants.{Gr, Ss, Targets, Pairs, NoSuchVertex, Memory, Write}
 use Rattle.sp_jobs.specs.Answers.{is_early}
 use Rattle.sp_jobs.specs.declared.answering.Step.{Step}
-use Rattle.sp_jobs.specs.Told.{Told, IsDue, AreDue, count_of, far_of, text_of, told_text, IsSummary, IsWritten, AreWritten, AreDone, HasBegunFirst, AreAllAnswered}
+use Rattle.sp_jobs.specs.Told.{WrittenAnswer, IsDue, AreDue, count_of, far_of, text_of, told_text, IsSummary, IsWritten, AreWritten, AreDone, HasBegunFirst, AreAllAnswered}
 use Rattle.sp_jobs.specs.Steps.{none, sum_of, Fits, AreFound, AreFew, IsStep, IsStepped}
 
 -- ## Lists
@@ -34,15 +34,15 @@ none_left (s ∷ sources) none = absurd (omega arith)
 
 -- ## Answers
 
-module _ (Answers : ℕ → Told → Type 0) where
-  pub due_both : (front back : List ℕ) (first second : List Told) → AreDue Answers front first → AreDue Answers back second → AreDue Answers (front ++ back) (first ++ second)
+module _ (Answers : ℕ → WrittenAnswer → Type 0) where
+  pub due_both : (front back : List ℕ) (first second : List WrittenAnswer) → AreDue Answers front first → AreDue Answers back second → AreDue Answers (front ++ back) (first ++ second)
   due_both [] back [] second are more = more
   due_both [] back (a ∷ first) second are more = absurd are
   due_both (s ∷ front) back [] second are more = absurd are
   due_both (s ∷ front) back (a ∷ first) second are more = (are.0, due_both front back first second are.1 more)
 
   -- They count no more than so many lists of the greatest length.
-  pub due_few : (sources : List ℕ) (all : List Told) → AreDue Answers sources all → (sum_by count_of all ≤ length sources * 1048576) × (sum_by far_of all ≤ sum_by count_of all)
+  pub due_few : (sources : List ℕ) (all : List WrittenAnswer) → AreDue Answers sources all → (sum_by count_of all ≤ length sources * 1048576) × (sum_by far_of all ≤ sum_by count_of all)
   due_few [] [] are = (omega arith, omega arith)
   due_few [] (a ∷ all) are = absurd are
   due_few (s ∷ sources) [] are = absurd are
@@ -52,7 +52,7 @@ module _ (Answers : ℕ → Told → Type 0) where
       let fars = sum_by-cons far_of a all in
       (omega (arith, more.0, counts, are.0.few), omega (arith, more.1, counts, fars, are.0.far))
 
-module _ {F : Type 0} (told : F → Told) (Answers : ℕ → Told → Type 0) where
+module _ {F : Type 0} (told : F → WrittenAnswer) (Answers : ℕ → WrittenAnswer → Type 0) where
   pub found_both : (front back : List ℕ) (first second : List F) → AreFound told Answers front first → AreFound told Answers back second → AreFound told Answers (front ++ back) (first ++ second)
   found_both front back first second are more = rw (map-append told first second) (due_both Answers front back (map told first) (map told second) are more)
 
@@ -61,16 +61,16 @@ module _ {F : Type 0} (told : F → Told) (Answers : ℕ → Told → Type 0) wh
   found_more sources i group found less are is = rw (take_more sources i 0 less) (found_both (take i sources) (get_or sources i 0 ∷ []) group (found ∷ []) are (is, tt))
 
 -- The answers before one, it, and those behind it.
-pub group_parts : {F : Type 0} (told : F → Told) (group : List F) (i : ℕ) (found : F) → i < length group → found ≡ get_or group i found → map told group ≡ (map told (take i group) ++ told found ∷ []) ++ map told (drop (i + 1) group)
+pub group_parts : {F : Type 0} (told : F → WrittenAnswer) (group : List F) (i : ℕ) (found : F) → i < length group → found ≡ get_or group i found → map told group ≡ (map told (take i group) ++ told found ∷ []) ++ map told (drop (i + 1) group)
 group_parts {F} told group i found less is =
-    let answers : List F → List Told = λ (l : List F). map told l in
+    let answers : List F → List WrittenAnswer = λ (l : List F). map told l in
     let later = answers (drop (i + 1) group) in
     let front : answers (take (i + 1) group) ≡ answers (take i group) ++ told found ∷ [] =
     ap answers (take_more group i found less)
     ∙ (map-append told (take i group) (get_or group i found ∷ []) ∙ ap (λ (f : F). answers (take i group) ++ told f ∷ []) (sym is)) in
-    ap answers (sym (take-append-drop (i + 1) group)) ∙ (map-append told (take (i + 1) group) (drop (i + 1) group) ∙ ap (λ (l : List Told). l ++ later) front)
+    ap answers (sym (take-append-drop (i + 1) group)) ∙ (map-append told (take (i + 1) group) (drop (i + 1) group) ∙ ap (λ (l : List WrittenAnswer). l ++ later) front)
 
-pub text_both : (first second : List Told) → told_text (first ++ second) ≡ told_text first ++ told_text second
+pub text_both : (first second : List WrittenAnswer) → told_text (first ++ second) ≡ told_text first ++ told_text second
 text_both first second = flat_map-append text_of first second
 
 -- ## What was written
@@ -84,7 +84,7 @@ sum_fits zero zero s p q from is small more = omega arith
 sum_fits (suc b) zero s p q from is small more = omega (arith, from, small (omega arith))
 sum_fits b (suc n) s p q from is small more = omega (arith, from, is, more (omega arith))
 
-pub summary_both : (first second : List Told) (one two : Summary) → IsSummary first one → IsSummary second two → IsSummary (first ++ second) (sum_of one two)
+pub summary_both : (first second : List WrittenAnswer) (one two : Summary) → IsSummary first one → IsSummary second two → IsSummary (first ++ second) (sum_of one two)
 summary_both first second one two h k = record {
   sources = omega (arith, h.sources, k.sources, sum_by-append count_of first second);
   too_far = omega (arith, h.too_far, k.too_far, sum_by-append far_of first second);
@@ -99,7 +99,7 @@ none_written device out = record {
   small = λ (some : 0 < 0). absurd (omega (arith, some));
 }
 
-pub written_both : {W : Type 0} (device : Writer W) (first second : List Told) (old mid new : W) (one two : Summary) → IsWritten device first old one mid → IsWritten device second mid two new
+pub written_both : {W : Type 0} (device : Writer W) (first second : List WrittenAnswer) (old mid new : W) (one two : Summary) → IsWritten device first old one mid → IsWritten device second mid two new
     → IsWritten device (first ++ second) old (sum_of one two) new
 written_both device first second old mid new one two h k = record {
   wrote = rw (text_both first second) (Appends-trans (device.written old) (device.written mid) (device.written new) (told_text first) (told_text second) h.wrote k.wrote);
@@ -108,13 +108,13 @@ written_both device first second old mid new one two h k = record {
   small = still_small one.bytes two.bytes (device.passed mid) (device.passed new) k.went h.small k.small;
 }
 
-pub begun_both : {W : Type 0} (device : Writer W) (first second : List Told) (old mid : W) (new : Option (List ℕ)) (one : Summary) → IsWritten device first old one mid → IsBegun (told_text second) (device.written mid) new
+pub begun_both : {W : Type 0} (device : Writer W) (first second : List WrittenAnswer) (old mid : W) (new : Option (List ℕ)) (one : Summary) → IsWritten device first old one mid → IsBegun (told_text second) (device.written mid) new
     → IsBegun (told_text (first ++ second)) (device.written old) new
 begun_both device first second old mid new one h begun =
     begun_behind (told_text (first ++ second)) (told_text first) (told_text second) (device.written old) (device.written mid) new (text_both first second) h.wrote begun
 
 -- The writer failed behind some answers, and so the text of all was begun.
-pub written_refused : {W : Type 0} (device : Writer W) (all first second later : List Told) (old mid new : W) (one : Summary) (e : BatchError) → all ≡ (first ++ second) ++ later → IsWritten device first old one mid
+pub written_refused : {W : Type 0} (device : Writer W) (all first second later : List WrittenAnswer) (old mid new : W) (one : Summary) (e : BatchError) → all ≡ (first ++ second) ++ later → IsWritten device first old one mid
     → AreWritten device second mid (Err e) new → AreWritten device all old (Err e) new
 written_refused device all first second later old mid new one Write parts h begun = (
   rw (ap told_text parts ∙ text_both (first ++ second) later) (begun_more (told_text (first ++ second)) (told_text later) (device.written old) (device.written new) (begun_both device first second old mid (device.written new) one h begun.0)),
@@ -127,7 +127,7 @@ written_refused device all first second later old mid new one (Targets e) parts 
 written_refused device all first second later old mid new one (Pairs e) parts h begun = absurd begun
 written_refused device all first second later old mid new one (NoSuchVertex v role) parts h begun = absurd begun
 
-pub counts_fit : {W : Type 0} (device : Writer W) (first second : List Told) (old mid new : W) (one two : Summary) → IsWritten device first old one mid → IsWritten device second mid two new
+pub counts_fit : {W : Type 0} (device : Writer W) (first second : List WrittenAnswer) (old mid new : W) (one two : Summary) → IsWritten device first old one mid → IsWritten device second mid two new
     → sum_by count_of first + sum_by count_of second < 2 ^ 64 → sum_by far_of first + sum_by far_of second < 2 ^ 64 → Fits one two
 counts_fit device first second old mid new one two h k few far = record {
   sources = omega (arith, h.counted.sources, k.counted.sources, few);
@@ -136,7 +136,7 @@ counts_fit device first second old mid new one two h k few far = record {
 }
 
 -- The sums over a group and its first answers fit.
-pub group_fits : {F W : Type 0} (told : F → Told) (Answers : ℕ → Told → Type 0) (device : Writer W) (group : List F) (i : ℕ) (found : F) (old mid new : W) (one two : Summary) → AreFew told Answers group → i < length group → found ≡ get_or group i found
+pub group_fits : {F W : Type 0} (told : F → WrittenAnswer) (Answers : ℕ → WrittenAnswer → Type 0) (device : Writer W) (group : List F) (i : ℕ) (found : F) (old mid new : W) (one two : Summary) → AreFew told Answers group → i < length group → found ≡ get_or group i found
     → IsWritten device (map told (take i group)) old one mid → IsWritten device (told found ∷ []) mid two new → Fits one two
 group_fits told Answers device group i found old mid new one two few less is h k =
     let first = map told (take i group) in
@@ -152,10 +152,10 @@ group_fits told Answers device group i found old mid new one two few less is h k
 
 -- ## Sources
 
-pub none_done : {W : Type 0} (Answers : ℕ → Told → Type 0) (device : Writer W) (out : W) → AreDone Answers [] device out none out
+pub none_done : {W : Type 0} (Answers : ℕ → WrittenAnswer → Type 0) (device : Writer W) (out : W) → AreDone Answers [] device out none out
 none_done Answers device out = record { all = []; are = tt; text = none_written device out }
 
-module _ {W : Type 0} {Answers : ℕ → Told → Type 0} {device : Writer W} {front back : List ℕ} {old mid new : W} {one two : Summary} where
+module _ {W : Type 0} {Answers : ℕ → WrittenAnswer → Type 0} {device : Writer W} {front back : List ℕ} {old mid new : W} {one two : Summary} where
   pub done_both : AreDone Answers front device old one mid → AreDone Answers back device mid two new → AreDone Answers (front ++ back) device old (sum_of one two) new
   done_both h k = record {
     all = h.all ++ k.all;
@@ -170,8 +170,8 @@ module _ {W : Type 0} {Answers : ℕ → Told → Type 0} {device : Writer W} {f
       counts_fit device h.all k.all old mid new one two h.text k.text (omega (arith, first.0, second.0, few)) (omega (arith, first.0, second.0, first.1, second.1, few))
 
 -- What was found and then written was answered.
-module _ {W : Type 0} (Answers : ℕ → Told → Type 0) (device : Writer W) where
-  pub all_written : (sources : List ℕ) (all : List Told) (old new : W) (result : Result Summary BatchError) → AreDue Answers sources all
+module _ {W : Type 0} (Answers : ℕ → WrittenAnswer → Type 0) (device : Writer W) where
+  pub all_written : (sources : List ℕ) (all : List WrittenAnswer) (old new : W) (result : Result Summary BatchError) → AreDue Answers sources all
       → AreWritten device all old result new → AreAllAnswered Answers sources device old result new
   all_written sources all old new (Ok summary) are h = record { all = all; are = are; text = h }
   all_written sources all old new (Err Write) are h = (
@@ -186,7 +186,7 @@ module _ {W : Type 0} (Answers : ℕ → Told → Type 0) (device : Writer W) wh
   all_written sources all old new (Err (NoSuchVertex v role)) are h = absurd h
 
 -- Memory was refused before anything was written.
-pub none_begun : (Answers : ℕ → Told → Type 0) (sources : List ℕ) (old : Option (List ℕ)) → HasBegunFirst Answers sources old old
+pub none_begun : (Answers : ℕ → WrittenAnswer → Type 0) (sources : List ℕ) (old : Option (List ℕ)) → HasBegunFirst Answers sources old old
 none_begun Answers sources old = record {
   done = [];
   later = sources;
@@ -196,7 +196,7 @@ none_begun Answers sources old = record {
   begun = record { part = []; more = []; parts = refl; wrote = Appends-nil old };
 }
 
-module _ {W : Type 0} (Answers : ℕ → Told → Type 0) (sources front back later : List ℕ) (device : Writer W) (old mid : W) where
+module _ {W : Type 0} (Answers : ℕ → WrittenAnswer → Type 0) (sources front back later : List ℕ) (device : Writer W) (old mid : W) where
   begun_later : (new : Option (List ℕ)) (one : Summary) → sources ≡ (front ++ back) ++ later → AreDone Answers front device old one mid
       → HasBegunFirst Answers back (device.written mid) new → HasBegunFirst Answers sources (device.written old) new
   begun_later new one parts h begun = record {
@@ -220,7 +220,7 @@ module _ {W : Type 0} (Answers : ℕ → Told → Type 0) (sources front back la
   refused_later new one (NoSuchVertex v role) parts h begun = absurd begun
 
 -- Once answers are written, no file is refused.
-pub not_early : {W : Type 0} (Answers : ℕ → Told → Type 0) (sources : List ℕ) (device : Writer W) (old new : W) (result : Result Summary BatchError) (same : Type 0) → AreAllAnswered Answers sources device old result new → IfErr result (λ e. is_early e ≡ true → same)
+pub not_early : {W : Type 0} (Answers : ℕ → WrittenAnswer → Type 0) (sources : List ℕ) (device : Writer W) (old new : W) (result : Result Summary BatchError) (same : Type 0) → AreAllAnswered Answers sources device old result new → IfErr result (λ e. is_early e ≡ true → same)
 not_early Answers sources device old new (Ok summary) same is = tt
 not_early Answers sources device old new (Err Memory) same is = λ early. absurd (false≢true early)
 not_early Answers sources device old new (Err Write) same is = λ early. absurd (false≢true early)
@@ -233,27 +233,27 @@ not_early Answers sources device old new (Err (NoSuchVertex v role)) same is = a
 -- ## Groups of sources
 
 -- The first sources were answered, the answers to those behind them were found and wait, and the rest is to come.
-pub record IsBetween {F W : Type 0} (told : F → Told) (Answers : ℕ → Told → Type 0) (sources : List ℕ) (device : Writer W) (old : W) (summary : Summary) (new : W) (waiting : List F) (rest : List ℕ) : Type 0 where
+pub record IsBetween {F W : Type 0} (told : F → WrittenAnswer) (Answers : ℕ → WrittenAnswer → Type 0) (sources : List ℕ) (device : Writer W) (old : W) (summary : Summary) (new : W) (waiting : List F) (rest : List ℕ) : Type 0 where
   pub front : List ℕ
   pub back : List ℕ
   pub parts : sources ≡ (front ++ back) ++ rest
   pub done : AreDone Answers front device old summary new
   pub found : AreFound told Answers back waiting
 
-pub none_between : {F W : Type 0} (told : F → Told) (Answers : ℕ → Told → Type 0) (sources : List ℕ) (device : Writer W) (out : W) → IsBetween told Answers sources device out none out [] sources
+pub none_between : {F W : Type 0} (told : F → WrittenAnswer) (Answers : ℕ → WrittenAnswer → Type 0) (sources : List ℕ) (device : Writer W) (out : W) → IsBetween told Answers sources device out none out [] sources
 none_between told Answers sources device out = record { front = []; back = []; parts = refl; done = none_done Answers device out; found = tt }
 
 regroup : (sources front back rest group later : List ℕ) → sources ≡ (front ++ back) ++ rest → rest ≡ group ++ later → sources ≡ (front ++ (back ++ group)) ++ later
 regroup sources front back rest group later parts cut = parts ∙ (ap (λ (l : List ℕ). (front ++ back) ++ l) cut ∙ simp append_assoc)
 
 -- Those that wait are few.
-pub between_few : {F W : Type 0} {told : F → Told} {Answers : ℕ → Told → Type 0} {sources : List ℕ} {device : Writer W} {old mid : W} {summary : Summary} {waiting : List F} (rest : List ℕ) → IsBetween told Answers sources device old summary mid waiting rest
+pub between_few : {F W : Type 0} {told : F → WrittenAnswer} {Answers : ℕ → WrittenAnswer → Type 0} {sources : List ℕ} {device : Writer W} {old mid : W} {summary : Summary} {waiting : List F} (rest : List ℕ) → IsBetween told Answers sources device old summary mid waiting rest
     → length sources ≤ 1048576 → AreFew told Answers waiting
 between_few rest b short =
     let long = ap length b.parts in
     record { sources = b.back; short = omega (arith, simp length-append at long, short); found = b.found }
 
-module _ {F W : Type 0} {told : F → Told} {Answers : ℕ → Told → Type 0} {sources : List ℕ} {device : Writer W} {old mid : W} {summary : Summary} {waiting : List F} (new : W) where
+module _ {F W : Type 0} {told : F → WrittenAnswer} {Answers : ℕ → WrittenAnswer → Type 0} {sources : List ℕ} {device : Writer W} {old mid : W} {summary : Summary} {waiting : List F} (new : W) where
   -- A further group was refused.
   pub between_refused : (rest group later : List ℕ) (e : BatchError) → IsBetween told Answers sources device old summary mid waiting rest → rest ≡ group ++ later
       → ((front : List ℕ) → AreFound told Answers front waiting → IsStepped told Answers (front ++ group) device mid (Err e) new) → AreAllAnswered Answers sources device old (Err e) new

@@ -15,7 +15,7 @@ use Rattle.sp_jobs.specs.declared.answers.Summary.{Summary}
 use Rattle.sp_jobs.specs.declared.answers.BatchError.{BatchError}
 use Rattle.sp_jobs.specs.declared.answers.BatchError.TheVariants.{Gr, Ss, Targets, Pairs, NoSuchVertex, Memory, Write}
 use Rattle.sp_jobs.specs.declared.listing.Listed.{Listed}
-use Rattle.sp_jobs.specs.Listing.{Asked, AreAsked, numbers_of}
+use Rattle.sp_jobs.specs.Listing.{AskedList, AreAsked, numbers_of}
 use Rattle.sp_jobs.specs.Network.{SpellsGraph, HoldsGraph, GraphFault, MayReadGraph}
 
 -- ## What is written
@@ -50,7 +50,7 @@ abbrev pub IsListRefused : {S : Type 0} → (P : ℕ) → (text : List ℕ) → 
 IsListRefused P text s ss e = SourcesRead P text (s.left ss) (s.has_failed ss) (Err e)
 
 -- What a job has read of its files: a text spells the graph, and the list has the numbers that are asked for.
-pub record AreRead (P : ℕ) (way : Direction) (gr_text : List ℕ) (asked : Asked) (files : GrFile × Listed) : Type 0 where
+pub record AreRead (P : ℕ) (way : Direction) (gr_text : List ℕ) (asked : AskedList) (files : GrFile × Listed) : Type 0 where
   pub spells_graph : SpellsGraph P way gr_text (directed way (graph_of files.0))
   pub are_asked : AreAsked P asked (numbers_of files.1)
 
@@ -75,7 +75,7 @@ abbrev pub JobDone : Type 1
 JobDone = Wrote → Graph → (sources : List ℕ) → Result Summary BatchError → Type 0
 
 -- A text spells a graph, these are the sources that are asked for, and for them that was done.
-pub record AreAnswered (P : ℕ) (way : Direction) (gr_text : List ℕ) (asked : Asked) (Done : Graph → (sources : List ℕ) → Type 0) : Type 0 where
+pub record AreAnswered (P : ℕ) (way : Direction) (gr_text : List ℕ) (asked : AskedList) (Done : Graph → (sources : List ℕ) → Type 0) : Type 0 where
   pub graph : Graph
   pub sources : List ℕ
   pub spells_graph : SpellsGraph P way gr_text graph
@@ -84,13 +84,13 @@ pub record AreAnswered (P : ℕ) (way : Direction) (gr_text : List ℕ) (asked :
 
 -- The answer to the text of a graph and to a list: a refusal of the text, or of the list where the text spells a graph, with nothing
 -- written; or what is done for the graph and the sources that are asked for.
-abbrev pub JobAnswered : (P : ℕ) → (way : Direction) → (gr_text : List ℕ) → Asked → (NoGraph : GraphFault → Type 0) → (NoList : DimacsError → Type 0) → (Done : JobDone) → Wrote → Result Summary BatchError → Type 0
+abbrev pub JobAnswered : (P : ℕ) → (way : Direction) → (gr_text : List ℕ) → AskedList → (NoGraph : GraphFault → Type 0) → (NoList : DimacsError → Type 0) → (Done : JobDone) → Wrote → Result Summary BatchError → Type 0
 JobAnswered P way gr_text asked NoGraph NoList Done wrote (Err (Gr e)) = NoGraph e × IsUnwritten wrote
 JobAnswered P way gr_text asked NoGraph NoList Done wrote (Err (Ss e)) = HoldsGraph P way gr_text × NoList e × IsUnwritten wrote
 JobAnswered P way gr_text asked NoGraph NoList Done wrote result = AreAnswered P way gr_text asked (λ graph sources. Done wrote graph sources result)
 
 -- The same where the devices perhaps don't tell their bytes: some text spells the graph, and the list is asked for in some text.
-abbrev pub JobOfSome : (P : ℕ) → (way : Direction) → (List ℕ → Asked) → (Done : JobDone) → Wrote → Result Summary BatchError → Type 0
+abbrev pub JobOfSome : (P : ℕ) → (way : Direction) → (List ℕ → AskedList) → (Done : JobDone) → Wrote → Result Summary BatchError → Type 0
 JobOfSome P way asked Done wrote (Err (Gr e)) = IsUnwritten wrote
 JobOfSome P way asked Done wrote (Err (Ss e)) = IsUnwritten wrote
 JobOfSome P way asked Done wrote result = (gr_text ss_text : List ℕ) × AreAnswered P way gr_text (asked ss_text) (λ graph sources. Done wrote graph sources result)

@@ -16,7 +16,7 @@ use Rattle.sp_device.specs.declared.devices.Read.{Ghosts as Reader}
 use Rattle.sp_device.specs.declared.devices.Write.{Ghosts as Writer}
 use Rattle.sp_jobs.specs.declared.answers.BatchError.{BatchError}
 use Rattle.sp_jobs.specs.Answered.{Wrote, wrote_by, IsEnd, IsListRefused, JobAnswered, JobOfSome}
-use Rattle.sp_jobs.specs.Listing.{Asked, InText, AreRefused}
+use Rattle.sp_jobs.specs.Listing.{AskedList, InText, AreRefused}
 use Rattle.sp_jobs.specs.Network.{IsGraphRefused}
 use Rattle.sp_jobs.specs.Vertices.{IsFirstSource}
 
@@ -83,12 +83,12 @@ IsBatch P limit wrote graph sources result =
 
 -- The answer to a text and to what is asked for: a refusal of one of them, with nothing written; or what the graph that the text spells
 -- gives and the sources that are asked for, up to the limit.
-abbrev pub TreesAnswered : {G W : Type 0} → (P : ℕ) → (way : Direction) → (limit : Option ℕ) → (gr_text : List ℕ) → Asked → Reader G → G → Writer W → (old new : W) → Result Summary BatchError → Type 0
+abbrev pub TreesAnswered : {G W : Type 0} → (P : ℕ) → (way : Direction) → (limit : Option ℕ) → (gr_text : List ℕ) → AskedList → Reader G → G → Writer W → (old new : W) → Result Summary BatchError → Type 0
 TreesAnswered P way limit gr_text asked g gr w old new result =
     JobAnswered P way gr_text asked (IsGraphRefused P way gr_text g gr) (AreRefused P asked) (IsBatch P limit) (wrote_by w old new) result
 
 -- the same where the devices perhaps don't tell their bytes
-abbrev pub TreesOfSome : {W : Type 0} → (P : ℕ) → (way : Direction) → (limit : Option ℕ) → (List ℕ → Asked) → Writer W → (old new : W) → Result Summary BatchError → Type 0
+abbrev pub TreesOfSome : {W : Type 0} → (P : ℕ) → (way : Direction) → (limit : Option ℕ) → (List ℕ → AskedList) → Writer W → (old new : W) → Result Summary BatchError → Type 0
 TreesOfSome P way limit asked w old new result = JobOfSome P way asked (IsBatch P limit) (wrote_by w old new) result
 
 -- ## Sources of a text

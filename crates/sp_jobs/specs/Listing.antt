@@ -15,24 +15,24 @@ use Rattle.sp_jobs.specs.declared.listing.Listed.TheVariants as listed
 -- ## What is asked for
 
 -- the numbers at some places of a text, or all of it; or these
-pub data Asked : Type 0 where
-  InText : (places : Option (ℕ × ℕ)) → (text : List ℕ) → Asked
-  These : (numbers : List ℕ) → Asked
+pub data AskedList : Type 0 where
+  InText : (places : Option (ℕ × ℕ)) → (text : List ℕ) → AskedList
+  These : (numbers : List ℕ) → AskedList
 
 -- these are they
-abbrev pub AreAsked : (P : ℕ) → Asked → (numbers : List ℕ) → Type 0
+abbrev pub AreAsked : (P : ℕ) → AskedList → (numbers : List ℕ) → Type 0
 AreAsked P (InText places text) numbers = (list : SsFile) × SpellsSources P text list × (numbers ≡ part_of places list.sources.items)
 AreAsked P (These given) numbers = numbers ≡ given
 
 -- a reader refuses their text, whatever it leaves of it, and whether its device fails or not
-abbrev pub AreRefused : (P : ℕ) → Asked → DimacsError → Type 0
+abbrev pub AreRefused : (P : ℕ) → AskedList → DimacsError → Type 0
 AreRefused P (InText places text) e = (left : Option (List ℕ)) × (failed : Bool) × SourcesRead P text left failed (Err e)
 AreRefused P (These given) e = ⊥
 
 -- ## Lists
 
 -- what the list asks for, if its text is this one
-abbrev pub asked_in : {S : Type 0} → Listing S → (text : List ℕ) → Asked
+abbrev pub asked_in : {S : Type 0} → Listing S → (text : List ℕ) → AskedList
 asked_in (listing.InText device places) text = InText places text
 asked_in (listing.These numbers) text = These numbers.now
 

@@ -13,7 +13,7 @@ use Rattle.sp_jobs.specs.PairAnswers.{AreLinesWritten, HasBegunPairs}
 use Rattle.sp_device.specs.declared.devices.Read.{Ghosts as Reader}
 use Rattle.sp_device.specs.declared.devices.Write.{Ghosts as Writer}
 use Rattle.sp_jobs.specs.declared.answers.BatchError.TheVariants.{Targets}
-use Rattle.sp_jobs.specs.Listing.{Asked, AreAsked, AreRefused}
+use Rattle.sp_jobs.specs.Listing.{AskedList, AreAsked, AreRefused}
 use Rattle.sp_jobs.specs.Network.{IsGraphRefused}
 
 -- the pairs of a source with each target
@@ -46,21 +46,21 @@ IsMatrix P targets wrote graph sources result =
 -- ## Answers to texts
 
 -- What is done for a graph and sources, and a list that asks for the targets: a refusal of the list, with nothing written; or the matrix.
-abbrev pub IsMatrixTo : (P : ℕ) → (ends : Asked) → Wrote → Graph → (sources : List ℕ) → Result Summary BatchError → Type 0
+abbrev pub IsMatrixTo : (P : ℕ) → (ends : AskedList) → Wrote → Graph → (sources : List ℕ) → Result Summary BatchError → Type 0
 IsMatrixTo P ends wrote graph sources (Err (Targets e)) = AreRefused P ends e × IsUnwritten wrote
 IsMatrixTo P ends wrote graph sources result = (targets : List ℕ) × AreAsked P ends targets × IsMatrix P targets wrote graph sources result
 
 -- The same where the device perhaps doesn't tell its bytes: the list is asked for in some text.
-abbrev pub IsMatrixToSome : (P : ℕ) → (ends : List ℕ → Asked) → Wrote → Graph → (sources : List ℕ) → Result Summary BatchError → Type 0
+abbrev pub IsMatrixToSome : (P : ℕ) → (ends : List ℕ → AskedList) → Wrote → Graph → (sources : List ℕ) → Result Summary BatchError → Type 0
 IsMatrixToSome P ends wrote graph sources (Err (Targets e)) = IsUnwritten wrote
 IsMatrixToSome P ends wrote graph sources result = (text targets : List ℕ) × AreAsked P (ends text) targets × IsMatrix P targets wrote graph sources result
 
 -- The answer to the text of a graph and to two lists: a fault of a text, where those before it have none, with nothing written; or
 -- what the graph gives that the text spells, and the sources and the targets.
-abbrev pub MatrixAnswered : {G W : Type 0} → (P : ℕ) → (way : Direction) → (gr_text : List ℕ) → (starts ends : Asked) → Reader G → G → Writer W → (old new : W) → Result Summary BatchError → Type 0
+abbrev pub MatrixAnswered : {G W : Type 0} → (P : ℕ) → (way : Direction) → (gr_text : List ℕ) → (starts ends : AskedList) → Reader G → G → Writer W → (old new : W) → Result Summary BatchError → Type 0
 MatrixAnswered P way gr_text starts ends g gr w old new result =
     JobAnswered P way gr_text starts (IsGraphRefused P way gr_text g gr) (AreRefused P starts) (IsMatrixTo P ends) (wrote_by w old new) result
 
 -- The same where the devices perhaps don't tell their bytes: some texts spell the graph, and what the lists ask for in them.
-abbrev pub MatrixOfSome : {W : Type 0} → (P : ℕ) → (way : Direction) → (starts ends : List ℕ → Asked) → Writer W → (old new : W) → Result Summary BatchError → Type 0
+abbrev pub MatrixOfSome : {W : Type 0} → (P : ℕ) → (way : Direction) → (starts ends : List ℕ → AskedList) → Writer W → (old new : W) → Result Summary BatchError → Type 0
 MatrixOfSome P way starts ends w old new result = JobOfSome P way starts (IsMatrixToSome P ends) (wrote_by w old new) result

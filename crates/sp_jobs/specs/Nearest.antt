@@ -4,9 +4,9 @@ use Rattle.std.specs.Set.{distinct_count}
 use Rattle.sp_word.specs.Word.{max_dist}
 use Rattle.sp_device.specs.Devices.{IsBegun}
 use Rattle.sp_paths.specs.Paths.{Graph}
-use Rattle.sp_forest.specs.Forests.{IsFar}
-use Rattle.sp_forest.specs.ForestTable.{ForestTable, IsForestTable}
-use Rattle.sp_forest.specs.Nearest.{IsForestAnswer}
+use Rattle.sp_paths.specs.Forests.{IsFar}
+use Rattle.sp_answer.specs.ForestTable.{ForestTable, IsForestTable}
+use Rattle.sp_answer.specs.Nearest.{IsForestAnswer}
 use Rattle.sp_files.specs.ForestText.{source_count, forest_text, no_forest_text}
 use Rattle.sp_network.specs.declared.directions.Direction.{Direction}
 use Rattle.sp_jobs.specs.declared.answers.Summary.{Summary}
@@ -16,7 +16,7 @@ use Rattle.sp_device.specs.declared.devices.Read.{Ghosts as Reader}
 use Rattle.sp_device.specs.declared.devices.Write.{Ghosts as Writer}
 use Rattle.sp_jobs.specs.declared.answers.BatchError.{BatchError}
 use Rattle.sp_jobs.specs.Answered.{Wrote, wrote_by, IsEnd, IsUnwritten, JobAnswered, JobOfSome}
-use Rattle.sp_jobs.specs.Listing.{Asked, AreRefused}
+use Rattle.sp_jobs.specs.Listing.{AskedList, AreRefused}
 use Rattle.sp_jobs.specs.Network.{IsGraphRefused}
 use Rattle.sp_jobs.specs.Vertices.{IsFirstSource}
 
@@ -70,10 +70,10 @@ IsForestRun P limit wrote graph sources result =
 
 -- The answer to a text and to what is asked for: a refusal of one of them, with nothing written; or what the graph that the text spells
 -- gives and the sources that are asked for, up to the limit.
-abbrev pub ForestAnswered : {G W : Type 0} → (P : ℕ) → (way : Direction) → (limit : Option ℕ) → (gr_text : List ℕ) → Asked → Reader G → G → Writer W → (old new : W) → Result Summary BatchError → Type 0
+abbrev pub ForestAnswered : {G W : Type 0} → (P : ℕ) → (way : Direction) → (limit : Option ℕ) → (gr_text : List ℕ) → AskedList → Reader G → G → Writer W → (old new : W) → Result Summary BatchError → Type 0
 ForestAnswered P way limit gr_text asked g gr w old new result =
     JobAnswered P way gr_text asked (IsGraphRefused P way gr_text g gr) (AreRefused P asked) (IsForestRun P limit) (wrote_by w old new) result
 
 -- the same where the devices perhaps don't tell their bytes
-abbrev pub ForestOfSome : {W : Type 0} → (P : ℕ) → (way : Direction) → (limit : Option ℕ) → (List ℕ → Asked) → Writer W → (old new : W) → Result Summary BatchError → Type 0
+abbrev pub ForestOfSome : {W : Type 0} → (P : ℕ) → (way : Direction) → (limit : Option ℕ) → (List ℕ → AskedList) → Writer W → (old new : W) → Result Summary BatchError → Type 0
 ForestOfSome P way limit asked w old new result = JobOfSome P way asked (IsForestRun P limit) (wrote_by w old new) result

@@ -5,7 +5,7 @@ use Rattle.sp_paths.specs.Paths.{Graph, IsVertex, PairAnswer}
 use Rattle.sp_answer.specs.declared.pair.PairAnswer.{PairAnswer as Found}
 use Rattle.sp_answer.specs.Pair.{answer_of}
 use Rattle.sp_jobs.specs.Ready.{IsReady}
-use Rattle.sp_jobs.specs.Told.{Told}
+use Rattle.sp_jobs.specs.Told.{WrittenAnswer}
 use Rattle.sp_files.specs.PairText.{pair_text}
 use Rattle.sp_jobs.specs.PairAnswers.{ArePairAnswers, pairs_text, is_too_far}
 use Rattle.sp_jobs.specs.declared.row.Row.{Row}
@@ -28,7 +28,7 @@ abbrev pub is_far_line : ℕ × Found → Bool
 is_far_line line = is_too_far (answer_of line.1)
 
 -- what a row tells
-abbrev pub told_of_row : Row → Told
+abbrev pub told_of_row : Row → WrittenAnswer
 told_of_row row = record { count = length row.lines.items; far = count_by is_far_line row.lines.items; text = flat_map (line_text row.source) row.lines.items }
 
 -- The lines are for these targets, in their order, and have the answers to their pairs with the source.
@@ -42,11 +42,11 @@ pub record IsRow (P : ℕ) (g : Graph) (s : ℕ) (targets : List ℕ) (row : Row
   pub lines : AreLines P g s targets row.lines.items
 
 -- what the answers to pairs tell
-abbrev pub told_pairs : List (ℕ × ℕ) → List PairAnswer → Told
+abbrev pub told_pairs : List (ℕ × ℕ) → List PairAnswer → WrittenAnswer
 told_pairs pairs answers = record { count = length pairs; far = count_by is_too_far answers; text = pairs_text pairs answers }
 
 -- The answers to the source's pairs with the targets tell that.
-pub record IsRowTold (P : ℕ) (g : Graph) (targets : List ℕ) (s : ℕ) (told : Told) : Type 0 where
+pub record IsRowTold (P : ℕ) (g : Graph) (targets : List ℕ) (s : ℕ) (told : WrittenAnswer) : Type 0 where
   pub answers : List PairAnswer
   pub are : ArePairAnswers P g (pairs_from s targets) answers
   pub tells : told ≡ told_pairs (pairs_from s targets) answers

@@ -24,7 +24,7 @@ pub const LEAST_ITEMS: usize = 2000;
 
 /// The sources to answer, and the workers that answer them.
 #[derive(Drop)]
-pub struct Asked<'a, 'l, L> {
+pub struct Assignment<'a, 'l, L> {
     /// The sources, in the order in which their answers are written.
     pub sources: &'a [u32],
     /// The number of answers in all, as reported to the listener.
@@ -37,19 +37,19 @@ pub struct Asked<'a, 'l, L> {
     pub listener: &'l L,
 }
 
-impl<'a, 'l, L> Asked<'a, 'l, L> {
+impl<'a, 'l, L> Assignment<'a, 'l, L> {
     /// Returns the request of a job: these sources, with this many answers in all, reported to the job's listener.
     pub fn of<const P: u32, E: TeamEngine<P>>(
         job: &Job<'_, E>,
         listener: &'l L,
         sources: &'a [u32],
         count: usize,
-    ) -> Asked<'a, 'l, L>
+    ) -> Assignment<'a, 'l, L>
         ensures sources { result.sources.now ≡ sources.now }
         ensures count { result.count ≡ count }
         ensures workers { result.workers ≡ E.worker_count job.now.engine }
     {
-        Asked {
+        Assignment {
             sources,
             count,
             items: job.graph.m().saturating_add(job.graph.n() as usize),
@@ -61,7 +61,7 @@ impl<'a, 'l, L> Asked<'a, 'l, L> {
 
 // Returns how many threads are worth starting: one per worker, but no more than there are processors; and only one if
 // the graph is too small.
-fn count_at_once<R: Threads, L>(rt: &R, asked: &Asked<L>) -> Workers
+fn count_at_once<R: Threads, L>(rt: &R, asked: &Assignment<L>) -> Workers
     ensures { result ≤ asked.now.workers }
 {
     let workers = asked.workers;
@@ -98,7 +98,7 @@ pub fn answer_alone<Q: Question, R: Threads + Sync, W: Write, L: Listener>(
     rt: &R,
     alloc: Global,
     question: &Q,
-    asked: &Asked<L>,
+    asked: &Assignment<L>,
     out: &mut W,
 ) -> Result<Summary, BatchError>
     requires short { length asked.now.sources.now ≤ 1048576 }
@@ -130,7 +130,7 @@ fn find_and_write<Q: Question, R: Threads + Sync, W: Write, L>(
     rt: &R,
     alloc: Global,
     question: &Q,
-    asked: &Asked<L>,
+    asked: &Assignment<L>,
     before: &[Q::Found],
     out: &mut W,
 ) -> (
@@ -177,7 +177,7 @@ fn answer_group<Q: Question, R: Threads + Sync, W: Write>(
     rt: &R,
     alloc: Global,
     question: &Q,
-    asked: &Asked<Nobody>,
+    asked: &Assignment<Nobody>,
     waiting: Vec<Q::Found>,
     out: &mut W,
 ) -> Result<Step<Q::Found>, BatchError>
@@ -227,7 +227,7 @@ fn answer_side_by_side<Q: Question, R: Threads + Sync, W: Write, L: Listener>(
     rt: &R,
     alloc: Global,
     question: &Q,
-    asked: &Asked<L>,
+    asked: &Assignment<L>,
     out: &mut W,
 ) -> Result<Summary, BatchError>
     requires short { length asked.now.sources.now ≤ 1048576 }
@@ -243,7 +243,7 @@ fn answer_side_by_side<Q: Question, R: Threads + Sync, W: Write, L: Listener>(
         asked.listener.hear(Q::progress(summary, asked.count));
         let size = group_size(rest.len(), asked.workers);
         let (group, later) = rest.split_at(size);
-        let of_group = Asked {
+        let of_group = Assignment {
             sources: group,
             count: asked.count,
             items: asked.items,
@@ -274,7 +274,7 @@ pub fn answer_sources<Q: Question, R: Threads + Sync, W: Write, L: Listener>(
     rt: &R,
     alloc: Global,
     question: &Q,
-    asked: &Asked<L>,
+    asked: &Assignment<L>,
     out: &mut W,
 ) -> Result<Summary, BatchError>
     requires short { length asked.now.sources.now ≤ 1048576 }
@@ -290,7 +290,7 @@ pub fn answer_sources<Q: Question, R: Threads + Sync, W: Write, L: Listener>(
         asked.listener.hear(Q::progress(nothing(), asked.count));
         return answer_together::<Q, R, W>(rt, alloc, question, asked.workers, *source, out);
     }
-    let groups = Asked {
+    let groups = Assignment {
         sources: asked.sources,
         count: asked.count,
         items: asked.items,

@@ -10,7 +10,7 @@ ghost use Rattle.sp_jobs.specs.Answered.{MayFail, wrote_by};
 ghost use Rattle.sp_jobs.specs.Listing.{HasLeft, IsNumbered, MayRead, MayRefuse, asked_in};
 ghost use Rattle.sp_jobs.specs.Batch.{BatchAnswered, BatchOfSome, IsBatch, TreesAnswered, TreesOfSome};
 
-use crate::answering::{Asked, answer_sources};
+use crate::answering::{Assignment, answer_sources};
 use crate::answers::{BatchError, Role, Summary};
 use crate::listing::Listing;
 use crate::places::chosen;
@@ -18,10 +18,11 @@ use crate::progress::{Listener, Nobody};
 use crate::settings::{BucketWidth, Settings};
 use crate::trees::TreeQuestion;
 use crate::vertices::first_above;
+use sp_device::Peeked;
 use sp_dimacs::{Read, Write, read_ss};
-use sp_network::{Direction, Network, Peeked};
-use sp_run::RunCrew;
-use sp_serial::Rooms;
+use sp_network::{Direction, Network};
+use sp_run::RunsTeams;
+use sp_serial::SearchPool;
 use sp_word::{Meter, Workers};
 use std::alloc::Global;
 use std::sync::Wait;
@@ -29,7 +30,7 @@ use std::thread::Threads;
 
 // Tests the sources of a batch, and then finds and writes their answers.
 #[tactic(auto, using(crate::proofs::ToldInOrder::not_early))]
-fn answer_batch<const P: u32, R: RunCrew<P>, W: Write, L: Listener>(
+fn answer_batch<const P: u32, R: RunsTeams<P>, W: Write, L: Listener>(
     rt: &R,
     alloc: Global,
     file: Network,
@@ -38,7 +39,7 @@ fn answer_batch<const P: u32, R: RunCrew<P>, W: Write, L: Listener>(
     settings: &Settings<P, L>,
     out: &mut W,
 ) -> Result<Summary, BatchError>
-    requires crew { R.is_shared }
+    requires handle { R.is_shared }
     requires layout { is_layout P ≡ true }
     requires network { IsNetworkUpTo P (most_of settings.now.direction) file }
     requires sources { AreNumbered sources.now }
@@ -55,10 +56,10 @@ fn answer_batch<const P: u32, R: RunCrew<P>, W: Write, L: Listener>(
     let question = TreeQuestion {
         job: settings.job(rt, &graph, &uncounted),
         limit,
-        rooms: Rooms::new(alloc, settings.workers.get() as usize),
+        pool: SearchPool::new(alloc, settings.workers.get() as usize),
     };
     let count = sources.len();
-    let asked = Asked::of::<P, _>(&question.job, settings.listener, sources, count);
+    let asked = Assignment::of::<P, _>(&question.job, settings.listener, sources, count);
     answer_sources::<_, R, W, L>(rt, alloc, &question, &asked, out)
 }
 
@@ -112,7 +113,14 @@ pub fn run_batch<const P: u32, R: Threads + Wait + Sync, G: Read, S: Read, W: Wr
 ///
 /// With `&Alone::new(rt)` no thread sleeps until another wakes it, and if there is one worker, the calling thread does
 /// the whole job. With `&rt`, a reference to the runtime's, threads may wait for one another.
-pub fn run_batch_told<const P: u32, R: RunCrew<P>, G: Read, S: Read + Drop, W: Write, L: Listener>(
+pub fn run_batch_told<
+    const P: u32,
+    R: RunsTeams<P>,
+    G: Read,
+    S: Read + Drop,
+    W: Write,
+    L: Listener,
+>(
     rt: &R,
     alloc: Global,
     gr: &mut Peeked<G>,
@@ -121,7 +129,7 @@ pub fn run_batch_told<const P: u32, R: RunCrew<P>, G: Read, S: Read + Drop, W: W
     out: &mut W,
     settings: &Settings<P, L>,
 ) -> Result<Summary, BatchError>
-    requires crew { R.is_shared }
+    requires handle { R.is_shared }
     requires layout { is_layout P ≡ true }
     requires sources { IsNumbered sources }
     requires limit { IfSome limit (λ l. l ≤ max_dist P) }

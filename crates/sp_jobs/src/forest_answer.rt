@@ -2,18 +2,18 @@
 ghost use Rattle.std.specs.Prelude.{◌≤◌, All, IfOk, IfSome};
 ghost use Rattle.sp_word.specs.Word.{max_dist};
 ghost use Rattle.sp_paths.specs.Paths.{IsVertex};
-ghost use Rattle.sp_forest.specs.Nearest.{IsForestAnswer};
+ghost use Rattle.sp_answer.specs.Nearest.{IsForestAnswer};
 ghost use Rattle.sp_jobs.specs.Ready.{IsReady};
 ghost use Rattle.sp_jobs.specs.Nearest.{IsAnswerToAll};
 ghost use Rattle.sp_jobs.specs.ForestAnswer.{forest_answer_of, IsForestAnswerWritten};
 
 use crate::answers::{BatchError, Summary};
 use crate::job::Job;
+use sp_answer::Engine;
 use sp_device::Write;
-use sp_engine::Engine;
 use sp_files::{Forest, write_forest, write_no_forest};
 use sp_run::{Nearest, RunError};
-use sp_serial::{Rooms, forest_near};
+use sp_serial::{SearchPool, forest_near};
 use std::alloc::{AllocError, Global};
 
 /// The answer for several sources.
@@ -25,7 +25,7 @@ pub(crate) enum NearestAnswer<const P: u32> {
     TooFar(u32),
 }
 
-/// Finds the answer. A room finds a small forest. A run by a team finds any other, and counts the vertices that it
+/// Finds the answer. A search finds a small forest. A run by a team finds any other, and counts the vertices that it
 /// relaxes on the job's meter.
 pub(crate) fn find_answer<const P: u32, E: Engine<P>>(
     alloc: Global,
@@ -39,9 +39,9 @@ pub(crate) fn find_answer<const P: u32, E: Engine<P>>(
     ensures { IfOk result (λ found. IsAnswerToAll P job.now.graph.now
         asked.entry.sources.now asked.entry.limit (forest_answer_of found)) }
 {
-    let rooms = Rooms::new(alloc, 1);
+    let pool = SearchPool::new(alloc, 1);
     let Nearest { sources, limit } = asked;
-    match forest_near(&job.engine, &rooms, alloc, job.graph, sources, limit) {
+    match forest_near(&job.engine, &pool, alloc, job.graph, sources, limit) {
         Ok(forest) => Ok(NearestAnswer::Forest(forest)),
         Err(RunError::TooFar(vertex)) => Ok(NearestAnswer::TooFar(vertex)),
         Err(RunError::NoSuchVertex) => unreachable!(),

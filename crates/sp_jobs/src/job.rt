@@ -14,11 +14,12 @@ use crate::answers::BatchError;
 use crate::listing::{Listed, Listing};
 use crate::progress::{Listener, Progress};
 use crate::settings::Settings;
+use sp_device::Peeked;
 use sp_dimacs::Read;
 use sp_graph::Graph;
-use sp_network::{Network, Peeked, read_network};
-use sp_run::{ByTeam, RunCrew};
-use sp_word::{Crew, Meter};
+use sp_network::{Network, read_network};
+use sp_run::{ByTeam, RunsTeams};
+use sp_word::{Meter, ThreadsAndSleep};
 use std::alloc::{AllocError, Global};
 use std::marker::Sync;
 use std::thread::Threads;
@@ -26,7 +27,7 @@ use std::thread::Threads;
 impl<const P: u32, L: Listener> Settings<'_, P, L> {
     /// Reads the graph of a job from a file, with one thread per worker. Each job gets its graph by this call, and
     /// then, once it has tested its numbers, by `build`.
-    pub fn read_graph<R: Crew, G: Read>(
+    pub fn read_graph<R: ThreadsAndSleep, G: Read>(
         &self,
         rt: &R,
         alloc: Global,
@@ -53,7 +54,7 @@ impl<const P: u32, L: Listener> Settings<'_, P, L> {
     }
 
     /// Reads the graph of a job, and then the list of its sources.
-    pub fn read<'s, R: Crew, G: Read, S: Read + Drop>(
+    pub fn read<'s, R: ThreadsAndSleep, G: Read, S: Read + Drop>(
         &self,
         rt: &R,
         alloc: Global,
@@ -113,7 +114,7 @@ impl<const P: u32, L: Listener> Settings<'_, P, L> {
 
     /// Returns the job in a graph. Its runs count on the listener's meter, or on the other one if the listener has
     /// none.
-    pub fn job<'a, C: RunCrew<P>>(
+    pub fn job<'a, C: RunsTeams<P>>(
         &'a self,
         rt: &'a C,
         graph: &'a Graph,

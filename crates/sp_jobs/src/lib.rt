@@ -21,7 +21,7 @@ mod trees;
 mod vertices;
 mod writing;
 
-pub use answering::{Asked, LEAST_ITEMS, answer_alone, answer_sources};
+pub use answering::{Assignment, LEAST_ITEMS, answer_alone, answer_sources};
 pub use answers::{BatchError, Role, Summary};
 pub use batch::{run_batch, run_batch_told};
 pub use job::Job;

@@ -10,23 +10,24 @@ ghost use Rattle.sp_jobs.specs.Listing.{HasLeft, IsNumbered, MayRefuse, asked_in
 ghost use Rattle.sp_jobs.specs.Matrix.{IsMatrix};
 ghost use Rattle.sp_jobs.specs.Matrix.{MatrixAnswered, MatrixOfSome};
 
-use crate::answering::{Asked, answer_sources};
+use crate::answering::{Assignment, answer_sources};
 use crate::answers::{BatchError, Role, Summary};
 use crate::listing::Listing;
 use crate::progress::Listener;
 use crate::row::RowQuestion;
 use crate::settings::Settings;
 use crate::vertices::first_above;
+use sp_device::Peeked;
 use sp_dimacs::{Read, Write};
-use sp_network::{Network, Peeked};
-use sp_run::RunCrew;
-use sp_serial::Rooms;
+use sp_network::Network;
+use sp_run::RunsTeams;
+use sp_serial::SearchPool;
 use sp_word::Meter;
 use std::alloc::Global;
 
 // Tests the sources and then the targets of a matrix, and then finds and writes its lines.
 #[tactic(auto, using(crate::proofs::ToldInOrder::not_early))]
-fn answer_matrix<'x, const P: u32, R: RunCrew<P>, W: Write, L: Listener>(
+fn answer_matrix<'x, const P: u32, R: RunsTeams<P>, W: Write, L: Listener>(
     rt: &'x R,
     alloc: Global,
     file: Network,
@@ -35,7 +36,7 @@ fn answer_matrix<'x, const P: u32, R: RunCrew<P>, W: Write, L: Listener>(
     settings: &'x Settings<P, L>,
     out: &mut W,
 ) -> Result<Summary, BatchError>
-    requires crew { R.is_shared }
+    requires handle { R.is_shared }
     requires layout { is_layout P ≡ true }
     requires network { IsNetworkUpTo P (most_of settings.now.direction) file }
     requires sources { AreNumbered sources.now }
@@ -56,10 +57,10 @@ fn answer_matrix<'x, const P: u32, R: RunCrew<P>, W: Write, L: Listener>(
     let question = RowQuestion {
         job: settings.job(rt, &graph, &uncounted),
         targets,
-        rooms: Rooms::new(alloc, settings.workers.get() as usize),
+        pool: SearchPool::new(alloc, settings.workers.get() as usize),
     };
     let count = sources.len().saturating_mul(targets.len());
-    let asked = Asked::of::<P, _>(&question.job, settings.listener, sources, count);
+    let asked = Assignment::of::<P, _>(&question.job, settings.listener, sources, count);
     answer_sources::<_, R, W, L>(rt, alloc, &question, &asked, out)
 }
 
@@ -74,10 +75,10 @@ fn answer_matrix<'x, const P: u32, R: RunCrew<P>, W: Write, L: Listener>(
 /// From each source it looks for near targets. If they aren't near, it makes one run, which goes no farther than the
 /// farthest of the targets. Several sources are answered at once, as `run_batch` does. The lines of a source are
 /// written as soon as they and those before them are known. The listener is called when the graph has been built, and
-/// before each source, or each group of sources that are answered at once. The crew is as in `run_batch_told`.
+/// before each source, or each group of sources that are answered at once. The handle is as in `run_batch_told`.
 pub fn run_matrix_told<
     const P: u32,
-    R: RunCrew<P>,
+    R: RunsTeams<P>,
     G: Read,
     S: Read + Drop,
     T: Read + Drop,
@@ -92,7 +93,7 @@ pub fn run_matrix_told<
     out: &mut W,
     settings: &Settings<P, L>,
 ) -> Result<Summary, BatchError>
-    requires crew { R.is_shared }
+    requires handle { R.is_shared }
     requires layout { is_layout P ≡ true }
     requires sources { IsNumbered sources }
     requires targets { IsNumbered targets }

@@ -16,14 +16,15 @@ use crate::progress::{Listener, Progress};
 use crate::settings::Settings;
 use crate::vertices::first_above;
 use crate::writing::nothing;
+use sp_device::Peeked;
 use sp_dimacs::{Read, Write};
-use sp_network::{Network, Peeked};
-use sp_run::{Nearest, RunCrew};
+use sp_network::Network;
+use sp_run::{Nearest, RunsTeams};
 use sp_word::Meter;
 use std::alloc::Global;
 
 // Tests the sources, and then finds and writes their answer.
-fn answer_nearest<const P: u32, R: RunCrew<P>, W: Write, L: Listener>(
+fn answer_nearest<const P: u32, R: RunsTeams<P>, W: Write, L: Listener>(
     rt: &R,
     alloc: Global,
     file: Network,
@@ -31,7 +32,7 @@ fn answer_nearest<const P: u32, R: RunCrew<P>, W: Write, L: Listener>(
     settings: &Settings<P, L>,
     out: &mut W,
 ) -> Result<Summary, BatchError>
-    requires crew { R.is_shared }
+    requires handle { R.is_shared }
     requires layout { is_layout P ≡ true }
     requires network { IsNetworkUpTo P (most_of settings.now.direction) file }
     requires sources { AreNumbered asked.sources.now }
@@ -67,10 +68,10 @@ fn answer_nearest<const P: u32, R: RunCrew<P>, W: Write, L: Listener>(
 /// With a limit, the calling thread first looks for a small forest, at the cost of what it touches. If it finds none,
 /// or without a limit, one run is made, with all workers. The listener is called when the graph has been built, and
 /// before the forest is found. Its meter counts the vertices that the run relaxes, and none that the calling thread
-/// relaxes on its own. The summary counts one answer. The crew is as in `run_batch_told`.
+/// relaxes on its own. The summary counts one answer. The handle is as in `run_batch_told`.
 pub fn run_nearest_told<
     const P: u32,
-    R: RunCrew<P>,
+    R: RunsTeams<P>,
     G: Read,
     S: Read + Drop,
     W: Write,
@@ -84,7 +85,7 @@ pub fn run_nearest_told<
     out: &mut W,
     settings: &Settings<P, L>,
 ) -> Result<Summary, BatchError>
-    requires crew { R.is_shared }
+    requires handle { R.is_shared }
     requires layout { is_layout P ≡ true }
     requires sources { IsNumbered sources }
     requires limit { IfSome limit (λ limit. limit ≤ max_dist P) }

@@ -1,7 +1,7 @@
 //! A question about each source.
 ghost use Rattle.std.specs.Prelude.{◌≡◌, ℕ, [], ◌∷◌, IfOk};
 ghost use denote.Param.Send.{IsSync};
-ghost use Rattle.sp_jobs.specs.Told.{Told, IsDue, AreWritten};
+ghost use Rattle.sp_jobs.specs.Told.{WrittenAnswer, IsDue, AreWritten};
 
 use crate::answers::{BatchError, Summary};
 use crate::progress::Progress;
@@ -17,13 +17,13 @@ pub trait Question: Sync {
     type Found: Drop + Send;
 
     /// What an answer says: how much it counts, and its text.
-    ghost told: { Self.Found → Told };
+    ghost told: { Self.Found → WrittenAnswer };
 
     /// The source may be asked.
     ghost can_ask: { Self → ℕ → Type 0 };
 
     /// This is a correct answer for the source.
-    ghost answers: { Self → ℕ → Told → Type 0 };
+    ghost answers: { Self → ℕ → WrittenAnswer → Type 0 };
 
     /// Returns the progress after these answers have been written, out of this many in all.
     fn progress(written: Summary, count: usize) -> Progress;

@@ -2,7 +2,7 @@
 ghost use Rattle.std.specs.Prelude.{◌≡◌, length, IfOk};
 ghost use Rattle.sp_jobs.specs.Told.{IsDue};
 ghost use Rattle.sp_word.specs.Word.{max_dist};
-ghost use Rattle.sp_forest.specs.Run.{AreAnswersFor};
+ghost use Rattle.sp_answer.specs.Run.{AreAnswersFor};
 ghost use Rattle.sp_jobs.specs.Row.{IsRow, IsRowTold, CanFindRow, told_of_row};
 
 use crate::answers::{BatchError, Summary};
@@ -14,7 +14,7 @@ use sp_answer::PairAnswer;
 use sp_device::Write;
 use sp_graph::Graph;
 use sp_run::TeamEngine;
-use sp_serial::{Rooms, answers_near};
+use sp_serial::{SearchPool, answers_near};
 use sp_word::Workers;
 use std::alloc::{AllocError, Global};
 use std::marker::Sync;
@@ -31,8 +31,8 @@ pub struct Row {
 pub struct RowQuestion<'a, E, const P: u32> {
     pub(crate) job: Job<'a, E>,
     pub(crate) targets: &'a [u32],
-    /// The rooms in which it looks for near targets.
-    pub(crate) rooms: Rooms<P>,
+    /// The pool of buffers in which it looks for near targets.
+    pub(crate) pool: SearchPool<P>,
 }
 
 // Returns the row of a source from the answers for its targets.
@@ -54,7 +54,7 @@ fn row_of<const P: u32>(
     Ok(Row { source, lines })
 }
 
-// Returns the row of a source. A room finds near targets. A run finds the others, and goes no farther than they
+// Returns the row of a source. A search finds near targets. A run finds the others, and goes no farther than they
 // require. Without targets there is no search.
 fn find_row<const P: u32, E: TeamEngine<P> + Drop>(
     alloc: Global,
@@ -76,7 +76,7 @@ fn find_row<const P: u32, E: TeamEngine<P> + Drop>(
     }
     let (engine, graph) = (question.job.engine.by(workers), question.job.graph);
     let targets = question.targets;
-    let answers = answers_near(&engine, &question.rooms, alloc, graph, source, targets)?;
+    let answers = answers_near(&engine, &question.pool, alloc, graph, source, targets)?;
     row_of::<P>(alloc, graph, source, targets, &answers)
 }
 

@@ -7,15 +7,14 @@ use crate::answers::{BatchError, Summary};
 use crate::job::Job;
 use crate::progress::Progress;
 use crate::question::Question;
-use sp_answer::{Tree, WordTree};
+use sp_answer::{Engine, Tree, WordTree, tree_of};
 use sp_device::{Write, write_all};
-use sp_engine::{Engine, tree_of};
 use sp_files::{
     text_of, text_of_words, write_far, write_tree_in_pages, write_words_by, write_words_in_pages,
 };
 use sp_graph::Graph;
 use sp_run::{RunError, TeamEngine};
-use sp_serial::{Rooms, part_near};
+use sp_serial::{SearchPool, part_near};
 use sp_word::Workers;
 use std::alloc::{AllocError, Global};
 use std::marker::Sync;
@@ -45,8 +44,8 @@ pub struct TreeQuestion<'a, E, const P: u32> {
     pub(crate) job: Job<'a, E>,
     /// The greatest distance to report, if there is a limit.
     pub(crate) limit: Option<u64>,
-    /// Rooms that find a small part, one for each thread that may look for one.
-    pub(crate) rooms: Rooms<P>,
+    /// Buffers of searches for a small part, for each thread that may look for one.
+    pub(crate) pool: SearchPool<P>,
 }
 
 // Finds the whole tree of a source, or the vertex that is too far.
@@ -84,7 +83,7 @@ fn answer_of<const P: u32, E: TeamEngine<P> + Drop>(
     match question.limit {
         None => find_tree(&engine, alloc, graph, source),
         Some(limit) => {
-            let part = part_near(&engine, &question.rooms, alloc, graph, source, limit)?;
+            let part = part_near(&engine, &question.pool, alloc, graph, source, limit)?;
             Ok(SourceAnswer::Part(part))
         }
     }

@@ -4,8 +4,8 @@ use Rattle.std.specs.Prelude.{slice_get, slice_index}
 use Rattle.std.proofs.Math.Nat.{suc-mul, mul-le-mul_right}
 use Rattle.std.proofs.lemmas.Option.{get_or_from_slice_get, slice_get-get_or}
 use Rattle.sp_paths.specs.Paths.{Graph, IsVertex}
-use Rattle.sp_lists.specs.declared.answers.Told.{Told}
-use Rattle.sp_lists.specs.declared.answers.Told.TheVariants.{Tree, TooFar, Memory}
+use Rattle.sp_lists.specs.declared.outcomes.Outcome.{Outcome}
+use Rattle.sp_lists.specs.declared.outcomes.Outcome.TheVariants.{Done, TooFar, Memory}
 use Rattle.sp_lists.specs.Blocks.{Slices, IsCell, HasSameAt, HasTreeAt, KeepsOthers, IsSolvedAt, AreDone, AreSolved}
 
 pub next_block : (i n : ℕ) → (i + 1) * n ≡ i * n + n
@@ -58,9 +58,9 @@ kept_twice old mid new k first then = (then.0 ∙ first.0, then.1 ∙ first.1)
 
 -- One source more is done.
 pub one_more : (max : ℕ) (g : Graph) (sources : List ℕ) (place low : ℕ) (old mid new : Slices) → low ≡ place * g.n → AreDone max g sources place old mid
-    → IsSolvedAt max g (slice_index sources place) low mid new Tree → AreDone max g sources (place + 1) old new
+    → IsSolvedAt max g (slice_index sources place) low mid new Done → AreDone max g sources (place + 1) old new
 one_more max g sources place low old mid new at done solved =
-    let R : ℕ → Type 0 = λ x. IsSolvedAt max g (slice_index sources place) x mid new Tree in
+    let R : ℕ → Type 0 = λ x. IsSolvedAt max g (slice_index sources place) x mid new Done in
     let block : R (place * g.n) = subst R at solved in record {
       trees = next_holds (HasTreeAt max g) sources g.n place mid new (λ i s behind is. stays max g s (i * g.n) (place * g.n) mid new behind block.1 is) done.trees block.0;
       rest = λ k h.
@@ -70,9 +70,9 @@ one_more max g sources place low old mid new at done solved =
     }
 
 -- Why a source has no tree is why there are no more.
-pub stopped : (max : ℕ) (g : Graph) (sources : List ℕ) (place low : ℕ) (old mid new : Slices) (told : Told) → place < length sources → (told ≡ Tree → ⊥) → AreDone max g sources place old mid
+pub stopped : (max : ℕ) (g : Graph) (sources : List ℕ) (place low : ℕ) (old mid new : Slices) (told : Outcome) → place < length sources → (told ≡ Done → ⊥) → AreDone max g sources place old mid
     → IsSolvedAt max g (slice_index sources place) low mid new told → AreSolved max g sources old new (record { done = place; told = told })
-stopped max g sources place low old mid new Tree within not done is = absurd (not refl)
+stopped max g sources place low old mid new Done within not done is = absurd (not refl)
 stopped max g sources place low old mid new (TooFar v) within not done is = (
   subst (λ x. AreDone max g sources place old x) (sym is.1) done,
   (slice_index sources place, slice_get-get_or sources place 0 within, is.0),

@@ -4,15 +4,15 @@ use Rattle.std.specs.Prelude.{All, Contains}
 use Rattle.sp_word.specs.Word.{Word, Unreached, Pair}
 use Rattle.sp_paths.specs.Paths.{Graph, IsGraph, IsVertex, IsLeast, word_at}
 use Rattle.sp_answer.specs.declared.answer.RunError.TheVariants.{TooFar as FarVertex}
-use Rattle.sp_forest.specs.Nearest.{IsForestUpTo, IsRefusal}
-use Rattle.sp_forest.specs.Rooted.{AreRoots, root_at}
-use Rattle.sp_forest.specs.Roots.{IsRootOrNone}
-use Rattle.sp_forest.proofs.ForestAnswers.{law_of}
-use Rattle.sp_lists.specs.declared.answers.Told.TheVariants.{TooFar}
-use Rattle.sp_lists.specs.Near.{Lists, IsRootCell, AreRooted, IsForestIn}
+use Rattle.sp_answer.specs.Nearest.{IsForestUpTo, IsRefusal}
+use Rattle.sp_answer.specs.Rooted.{AreRoots, root_at}
+use Rattle.sp_paths.specs.Roots.{IsRootOrNone}
+use Rattle.sp_answer.proofs.ForestAnswers.{law_of}
+use Rattle.sp_lists.specs.declared.outcomes.Outcome.TheVariants.{TooFar}
+use Rattle.sp_lists.specs.ForestQuestion.{ForestSlices, IsRootCell, AreRooted, IsForestIn}
 
 -- A vertex that is too far is told only without a limit.
-pub far_told : (P : ℕ) (g : Graph) (sources : List ℕ) (limit : Option ℕ) (v : ℕ) (there : Lists) → IsRefusal P g sources limit (FarVertex v) → IsForestIn P g sources limit there there (TooFar v)
+pub far_told : (P : ℕ) (g : Graph) (sources : List ℕ) (limit : Option ℕ) (v : ℕ) (there : ForestSlices) → IsRefusal P g sources limit (FarVertex v) → IsForestIn P g sources limit there there (TooFar v)
 far_told P g sources None v there is = (refl, is.1, refl)
 far_told P g sources (Some limit) v there is = absurd is
 

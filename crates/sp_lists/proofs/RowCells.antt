@@ -9,11 +9,11 @@ use Rattle.sp_word.specs.Word.{Word}
 use Rattle.sp_word.specs.History.{Table}
 use Rattle.sp_paths.specs.Paths.{IsVertex}
 use Rattle.sp_answer.specs.Table.{word_in, AreRows}
-use Rattle.sp_forest.specs.ForestTable.{Row, row_in, word_of, root_in, table_of}
-use Rattle.sp_forest.specs.ForestTable.{AreRows as AreForestRows}
+use Rattle.sp_answer.specs.ForestTable.{Row, row_in, word_of, root_in, table_of}
+use Rattle.sp_answer.specs.ForestTable.{AreRows as AreForestRows}
 use Rattle.sp_lists.specs.Blocks.{slices, Slices, IsCell, AreCells, KeepsFrom}
-use Rattle.sp_lists.specs.Listed.{Listing, listing, KeepsListingFrom}
-use Rattle.sp_lists.specs.Near.{lists, Lists, IsRootPut, AreNoRoots, ArePutRoots, KeepsListsFrom}
+use Rattle.sp_lists.specs.Listed.{ListingSlices, listing, KeepsListingFrom}
+use Rattle.sp_lists.specs.ForestQuestion.{lists, ForestSlices, IsRootPut, AreNoRoots, ArePutRoots, KeepsListsFrom}
 
 -- ## Rows
 
@@ -135,7 +135,7 @@ root_put n vertex root r word rows more there is at long put puts v here = go (c
         subst R (sym passed) (subst (IsRootPut (word_of (row_in more v)) (root_in (row_in more v))) (sym (put_elsewhere there (vertex - 1) (v - 1) r j)) (puts v here))
 
 -- Nothing else is written.
-pub lists_put : (n place d p r : ℕ) (old : Lists) (dist pred root : List ℕ) → place < n → KeepsListsFrom n old (lists dist pred root)
+pub lists_put : (n place d p r : ℕ) (old : ForestSlices) (dist pred root : List ℕ) → place < n → KeepsListsFrom n old (lists dist pred root)
     → KeepsListsFrom n old (lists (slice_set dist place d) (slice_set pred place p) (slice_set root place r))
 lists_put n place d p r old dist pred root within keeps k h =
     let other : k ≡ place → ⊥ = λ e. omega (arith, e) in
@@ -149,7 +149,7 @@ no_roots_put n root none v at = none v at
 -- ## Lists
 
 -- The slices hold the rows before the place i.
-abbrev pub HasRowsBefore : (i : ℕ) → List (ℕ × Word) → Listing → Type 0
+abbrev pub HasRowsBefore : (i : ℕ) → List (ℕ × Word) → ListingSlices → Type 0
 HasRowsBefore i rows l = (k : ℕ) (row : ℕ × Word) → k < i → slice_get rows k ≡ Some row → (slice_index l.vertex k ≡ row.0) × IsCell row.1 (slice_index l.dist k) (slice_index l.pred k)
 
 -- One row more is listed.
@@ -172,7 +172,7 @@ row_listed rows place d p row vertex dist pred there vs ds ps cell before k othe
         (put_elsewhere vertex place k row.0 differs ∙ held.0, subst D (sym (put_elsewhere dist place k d differs)) (subst (IsCell other.1 (slice_index dist k)) (sym (put_elsewhere pred place k p differs)) held.1))
 
 -- Nothing else is written.
-pub listing_put : (place v d p : ℕ) (old : Listing) (vertex dist pred : List ℕ) → KeepsListingFrom place old (listing vertex dist pred)
+pub listing_put : (place v d p : ℕ) (old : ListingSlices) (vertex dist pred : List ℕ) → KeepsListingFrom place old (listing vertex dist pred)
     → KeepsListingFrom (place + 1) old (listing (slice_set vertex place v) (slice_set dist place d) (slice_set pred place p))
 listing_put place v d p old vertex dist pred keeps k h =
     let other : k ≡ place → ⊥ = λ e. omega (arith, e) in
@@ -181,7 +181,7 @@ listing_put place v d p old vertex dist pred keeps k h =
     (put_elsewhere vertex place k v other ∙ same.0, put_elsewhere dist place k d other ∙ same.1, put_elsewhere pred place k p other ∙ same.2)
 
 -- All rows are listed.
-pub all_listed : (i : ℕ) (rows : List (ℕ × Word)) (l : Listing) (k : ℕ) (row : ℕ × Word) → length rows ≤ i → HasRowsBefore i rows l → slice_get rows k ≡ Some row → (slice_index l.vertex k ≡ row.0) × IsCell row.1 (slice_index l.dist k) (slice_index l.pred k)
+pub all_listed : (i : ℕ) (rows : List (ℕ × Word)) (l : ListingSlices) (k : ℕ) (row : ℕ × Word) → length rows ≤ i → HasRowsBefore i rows l → slice_get rows k ≡ Some row → (slice_index l.vertex k ≡ row.0) × IsCell row.1 (slice_index l.dist k) (slice_index l.pred k)
 all_listed i rows l k row all held there =
     let within : k < length rows = slice_get_within rows k row there in
     let below : k < i = omega arith in

@@ -6,9 +6,9 @@ use Rattle.std.proofs.lemmas.Slice.Zip.{AllZip-left, AllZip-long}
 use Rattle.sp_paths.specs.Paths.{Graph}
 use Rattle.sp_answer.specs.declared.pair.PairAnswer.{PairAnswer}
 use Rattle.sp_answer.specs.Pair.{answer_of}
-use Rattle.sp_forest.specs.Run.{IsAnswerFor, AreAnswersFor}
-use Rattle.sp_lists.specs.declared.answers.Told.{Told}
-use Rattle.sp_lists.specs.declared.answers.Told.TheVariants.{Tree, Memory}
+use Rattle.sp_answer.specs.Run.{IsAnswerFor, AreAnswersFor}
+use Rattle.sp_lists.specs.declared.outcomes.Outcome.{Outcome}
+use Rattle.sp_lists.specs.declared.outcomes.Outcome.TheVariants.{Done, Memory}
 use Rattle.sp_lists.specs.Matrix.{HasDistance, HasRowAt, ArePutAt, KeepsBut, IsRowIn, AreRowsDone, IsBlockIn}
 use Rattle.sp_lists.proofs.Blocks.{next_block, next_holds}
 
@@ -42,7 +42,7 @@ one_answer max g s t [] d zip = absurd (AllZip-left (λ t told. IsAnswerFor g s 
 one_answer max g s t (answer ∷ more) d zip = AllZip-left (λ t told. IsAnswerFor g s t max told) (t ∷ []) (answer ∷ more) zip 0
 
 pub whole_row : (max : ℕ) (g : Graph) (s low : ℕ) (targets : List ℕ) (answers : List PairAnswer) (old new : List ℕ) → AreAnswersFor g s max targets answers → ArePutAt answers low new
-    → KeepsBut low (length answers) old new → IsRowIn max g s targets low old new Tree
+    → KeepsBut low (length answers) old new → IsRowIn max g s targets low old new Done
 whole_row max g s low targets answers old new zip put others = (
   row_put max g s low targets answers new zip put,
   subst (λ count. KeepsBut low count old new) (as_many max g s targets answers zip) others,
@@ -59,10 +59,10 @@ stays max g s low at targets old new behind same row j t there =
 
 -- One row more is done.
 pub one_row_more : (max : ℕ) (g : Graph) (sources targets : List ℕ) (place low : ℕ) (old mid new : List ℕ) → low ≡ place * length targets → AreRowsDone max g sources targets place old mid
-    → IsRowIn max g (slice_index sources place) targets low mid new Tree → AreRowsDone max g sources targets (place + 1) old new
+    → IsRowIn max g (slice_index sources place) targets low mid new Done → AreRowsDone max g sources targets (place + 1) old new
 one_row_more max g sources targets place low old mid new at done solved =
     let n = length targets in
-    let R : ℕ → Type 0 = λ x. IsRowIn max g (slice_index sources place) targets x mid new Tree in
+    let R : ℕ → Type 0 = λ x. IsRowIn max g (slice_index sources place) targets x mid new Done in
     let row : R (place * n) = subst R at solved in record {
       rows = next_holds (λ s low there. HasRowAt max g s targets low there) sources n place mid new (λ i s behind is. stays max g s (i * n) (place * n) targets mid new behind row.1 is) done.rows row.0;
       rest = λ k h.
@@ -72,9 +72,9 @@ one_row_more max g sources targets place low old mid new at done solved =
     }
 
 -- Where there was no memory for a row, the rows before it are done.
-pub stopped_at : (max : ℕ) (g : Graph) (sources targets : List ℕ) (place low : ℕ) (old mid new : List ℕ) (told : Told) → place < length sources → (told ≡ Tree → ⊥)
+pub stopped_at : (max : ℕ) (g : Graph) (sources targets : List ℕ) (place low : ℕ) (old mid new : List ℕ) (told : Outcome) → place < length sources → (told ≡ Done → ⊥)
     → AreRowsDone max g sources targets place old mid → IsRowIn max g (slice_index sources place) targets low mid new told
     → IsBlockIn max g sources targets old new (record { done = place; told = told })
-stopped_at max g sources targets place low old mid new Tree within not done is = absurd (not refl)
+stopped_at max g sources targets place low old mid new Done within not done is = absurd (not refl)
 stopped_at max g sources targets place low old mid new Memory within not done is = (subst (λ x. AreRowsDone max g sources targets place old x) (sym is) done, within)
 stopped_at max g sources targets place low old mid new told within not done is = absurd is

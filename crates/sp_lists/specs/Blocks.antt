@@ -3,9 +3,9 @@ use Rattle.std.specs.Prelude.{◌≡◌, ◌⊎◌, ◌<◌, ◌≤◌, ◌+◌,
 use Rattle.sp_word.specs.Word.{Word, Unreached, Pair}
 use Rattle.sp_word.specs.History.{Table}
 use Rattle.sp_paths.specs.Paths.{Graph, IsVertex, IsTree, IsFar}
-use Rattle.sp_lists.specs.declared.answers.Told.{Told}
-use Rattle.sp_lists.specs.declared.answers.Told.TheVariants.{Tree, TooFar, Memory}
-use Rattle.sp_lists.specs.declared.answers.Batch.{Batch}
+use Rattle.sp_lists.specs.declared.outcomes.Outcome.{Outcome}
+use Rattle.sp_lists.specs.declared.outcomes.Outcome.TheVariants.{Done, TooFar, Memory}
+use Rattle.sp_lists.specs.declared.outcomes.BatchOutcome.{BatchOutcome}
 
 -- The slices hold the distances and the predecessors.
 pub record Slices : Type 0 where
@@ -56,14 +56,14 @@ pub record KeepsOthers (low n : ℕ) (old new : Slices) : Type 0 where
 -- ## One source
 
 -- The tree is written from the index `low` on, or nothing is written.
-abbrev pub IsSolvedAt : (max : ℕ) → Graph → (s low : ℕ) → (old new : Slices) → Told → Type 0
-IsSolvedAt max g s low old new Tree = HasTreeAt max g s low new × KeepsOthers low g.n old new
+abbrev pub IsSolvedAt : (max : ℕ) → Graph → (s low : ℕ) → (old new : Slices) → Outcome → Type 0
+IsSolvedAt max g s low old new Done = HasTreeAt max g s low new × KeepsOthers low g.n old new
 IsSolvedAt max g s low old new (TooFar v) = IsFar g s max (Some v) × (new ≡ old)
 IsSolvedAt max g s low old new Memory = new ≡ old
 IsSolvedAt max g s low old new told = ⊥
 
 -- This is why the source has no tree.
-abbrev pub HasNone : (max : ℕ) → Graph → (s : ℕ) → Told → Type 0
+abbrev pub HasNone : (max : ℕ) → Graph → (s : ℕ) → Outcome → Type 0
 HasNone max g s (TooFar v) = IsFar g s max (Some v)
 HasNone max g s Memory = Unit {0}
 HasNone max g s told = ⊥
@@ -77,12 +77,12 @@ pub record AreDone (max : ℕ) (g : Graph) (sources : List ℕ) (done : ℕ) (ol
 
 -- All sources are done; or a vertex is too far from the next one; or there was no memory for the next one, or for the
 -- graph.
-abbrev pub EndsBy : (max : ℕ) → Graph → (sources : List ℕ) → (done : ℕ) → Told → Type 0
-EndsBy max g sources done Tree = done ≡ length sources
+abbrev pub EndsBy : (max : ℕ) → Graph → (sources : List ℕ) → (done : ℕ) → Outcome → Type 0
+EndsBy max g sources done Done = done ≡ length sources
 EndsBy max g sources done (TooFar v) = (s : ℕ) × (slice_get sources done ≡ Some s) × IsFar g s max (Some v)
 EndsBy max g sources done Memory = (done < length sources) ⊎ (done ≡ 0)
 EndsBy max g sources done told = ⊥
 
 -- The first sources have their trees, and this is why no more have.
-abbrev pub AreSolved : (max : ℕ) → Graph → (sources : List ℕ) → (old new : Slices) → Batch → Type 0
+abbrev pub AreSolved : (max : ℕ) → Graph → (sources : List ℕ) → (old new : Slices) → BatchOutcome → Type 0
 AreSolved max g sources old new b = AreDone max g sources b.done old new × EndsBy max g sources b.done b.told

@@ -2,7 +2,7 @@ pub mod Limits
 pub mod Blocks
 pub mod Target
 pub mod Query
-pub mod Part
+pub mod PartQuestion
 pub mod Listed
-pub mod Near
+pub mod ForestQuestion
 pub mod Matrix

@@ -5,9 +5,9 @@ use Rattle.sp_paths.specs.Paths.{Graph, IsPair, PairAnswer}
 use Rattle.sp_paths.specs.Paths.{Found as FoundPair, TooFar as FarVertex, NoWalk as NoWay}
 use Rattle.sp_answer.specs.declared.pair.PairAnswer.{PairAnswer as Found}
 use Rattle.sp_answer.specs.Pair.{answer_of}
-use Rattle.sp_lists.specs.declared.answers.Told.{Told}
-use Rattle.sp_lists.specs.declared.answers.Told.TheVariants.{Tree, Memory}
-use Rattle.sp_lists.specs.declared.answers.Batch.{Batch}
+use Rattle.sp_lists.specs.declared.outcomes.Outcome.{Outcome}
+use Rattle.sp_lists.specs.declared.outcomes.Outcome.TheVariants.{Done, Memory}
+use Rattle.sp_lists.specs.declared.outcomes.BatchOutcome.{BatchOutcome}
 use Rattle.sp_lists.specs.Limits.{reach}
 use Rattle.sp_lists.specs.Query.{Query, IsGoodQuery, IsRefusedQuery}
 
@@ -44,8 +44,8 @@ pub record KeepsBut (low count : ℕ) (old new : List ℕ) : Type 0 where
   pub beyond : KeepsListFrom (low + count) old new
 
 -- The row is written from the index `low` on, or nothing is written.
-abbrev pub IsRowIn : (max : ℕ) → Graph → (s : ℕ) → (targets : List ℕ) → (low : ℕ) → (old new : List ℕ) → Told → Type 0
-IsRowIn max g s targets low old new Tree = HasRowAt max g s targets low new × KeepsBut low (length targets) old new
+abbrev pub IsRowIn : (max : ℕ) → Graph → (s : ℕ) → (targets : List ℕ) → (low : ℕ) → (old new : List ℕ) → Outcome → Type 0
+IsRowIn max g s targets low old new Done = HasRowAt max g s targets low new × KeepsBut low (length targets) old new
 IsRowIn max g s targets low old new Memory = new ≡ old
 IsRowIn max g s targets low old new told = ⊥
 
@@ -57,13 +57,13 @@ pub record AreRowsDone (max : ℕ) (g : Graph) (sources targets : List ℕ) (don
   pub rest : KeepsListFrom (done * length targets) old new
 
 -- All sources are done, or there was no memory for the next one.
-abbrev pub EndsRowsBy : (sources : List ℕ) → (done : ℕ) → Told → Type 0
-EndsRowsBy sources done Tree = done ≡ length sources
+abbrev pub EndsRowsBy : (sources : List ℕ) → (done : ℕ) → Outcome → Type 0
+EndsRowsBy sources done Done = done ≡ length sources
 EndsRowsBy sources done Memory = done < length sources
 EndsRowsBy sources done told = ⊥
 
 -- The first sources have their rows, and this is why no more have.
-abbrev pub IsBlockIn : (max : ℕ) → Graph → (sources targets : List ℕ) → (old new : List ℕ) → Batch → Type 0
+abbrev pub IsBlockIn : (max : ℕ) → Graph → (sources targets : List ℕ) → (old new : List ℕ) → BatchOutcome → Type 0
 IsBlockIn max g sources targets old new b = AreRowsDone max g sources targets b.done old new × EndsRowsBy sources b.done b.told
 
 -- ## A call
@@ -73,12 +73,12 @@ abbrev pub matrix_query : (sources targets : List ℕ) → (delta : ℕ) → Que
 matrix_query sources targets delta = record { sources = sources; targets = targets; delta = delta; limit = None; rows = length sources; columns = length targets }
 
 -- This is the reason, no row is done, and nothing is written.
-pub record IsNoRow (why : Told → Type 0) (old new : List ℕ) (b : Batch) : Type 0 where
+pub record IsNoRow (why : Outcome → Type 0) (old new : List ℕ) (b : BatchOutcome) : Type 0 where
   pub told : why b.told
   pub none : b.done ≡ 0
   pub same : new ≡ old
 
 -- Something is wrong with the call; or nothing is wrong, and the rows of the sources are written, up to the first for
 -- which there was no memory.
-abbrev pub IsMatrixOf : Graph → (sources targets : List ℕ) → (delta : ℕ) → (old new : List ℕ) → Batch → Type 0
+abbrev pub IsMatrixOf : Graph → (sources targets : List ℕ) → (delta : ℕ) → (old new : List ℕ) → BatchOutcome → Type 0
 IsMatrixOf g sources targets delta old new b = IsNoRow (IsRefusedQuery g.n (matrix_query sources targets delta) (length old)) old new b ⊎ (IsGoodQuery g.n (matrix_query sources targets delta) (length old) × IsBlockIn (reach g.n) g sources targets old new b)

@@ -2,8 +2,8 @@
 use Rattle.std.specs.Prelude.{◌<◌, ◌≤◌, ◌*◌, ◌++◌, ℕ, List, All, IfSome}
 use Rattle.std.specs.declared.option.Option.{Option}
 use Rattle.sp_paths.specs.Paths.{IsVertex}
-use Rattle.sp_lists.specs.declared.answers.Told.{Told}
-use Rattle.sp_lists.specs.declared.answers.Told.TheVariants.{BadSize, BadDelta, BadLimit, NoSuchVertex}
+use Rattle.sp_lists.specs.declared.outcomes.Outcome.{Outcome}
+use Rattle.sp_lists.specs.declared.outcomes.Outcome.TheVariants.{BadSize, BadDelta, BadLimit, NoSuchVertex}
 use Rattle.sp_lists.specs.declared.queries.Query.{Query as Asking}
 use Rattle.sp_lists.specs.Limits.{IsCount, IsFirstWithout, reach}
 
@@ -41,7 +41,7 @@ pub record IsGoodQuery (n : ℕ) (q : Query) (places : ℕ) : Type 0 where
 -- ## What is wrong
 
 -- This is the first thing that is wrong, among the size, the delta, the limit, the sources and the targets, in this order.
-abbrev pub IsRefusedQuery : (n : ℕ) → Query → (places : ℕ) → Told → Type 0
+abbrev pub IsRefusedQuery : (n : ℕ) → Query → (places : ℕ) → Outcome → Type 0
 IsRefusedQuery n q places BadSize = HasPlaces n q places → ⊥
 IsRefusedQuery n q places BadDelta = HasPlaces n q places × (reach n < q.delta)
 IsRefusedQuery n q places BadLimit = HasPlaces n q places × (q.delta ≤ reach n) × (IsLimit n q.limit → ⊥)

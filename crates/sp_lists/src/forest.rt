@@ -2,20 +2,20 @@
 ghost use Rattle.std.specs.Prelude.{◌≡◌, ◌≤◌, Some, length, true, All, IfOk, IfErr, IfSome};
 ghost use Rattle.sp_word.specs.Word.{is_layout, max_dist, max_pred};
 ghost use Rattle.sp_paths.specs.Paths.{IsVertex, word_at};
-ghost use Rattle.sp_forest.specs.ForestTable.{table_of};
-ghost use Rattle.sp_forest.specs.Nearest.{IsForestAnswer, IsRefusal};
+ghost use Rattle.sp_answer.specs.ForestTable.{table_of};
+ghost use Rattle.sp_answer.specs.Nearest.{IsForestAnswer, IsRefusal};
 ghost use Rattle.sp_lists.specs.Limits.{IsCount, pred_bits};
 ghost use Rattle.sp_lists.specs.Query.{IsLimit};
 ghost use Rattle.sp_lists.specs.Blocks.{slices, AreCells};
 ghost use Rattle.sp_lists.specs.Matrix.{KeepsListFrom};
-ghost use Rattle.sp_lists.specs.Near.{lists, KeepsListsFrom, IsRootPut, AreNoRoots, ArePutRoots, HoldsRoots, AreRooted, IsForestIn, IsForestOf};
+ghost use Rattle.sp_lists.specs.ForestQuestion.{lists, KeepsListsFrom, IsRootPut, AreNoRoots, ArePutRoots, HoldsRoots, AreRooted, IsForestIn, IsForestOf};
 
-use crate::answers::Told;
 use crate::cells::{cell_of, put_unreached};
-use crate::prepared::{At, Prepared, by_layout, fitting};
+use crate::found_words::find_words;
+use crate::outcomes::Outcome;
+use crate::prepared::{Prepared, PreparedLayout, by_layout, fitting};
 use crate::queries::Query;
-use crate::words::find_words;
-use sp_forest::{Forest, roots_of};
+use sp_answer::{Forest, roots_of};
 use sp_graph::Graph;
 use sp_serial::RunError;
 use sp_word::Word;
@@ -23,7 +23,7 @@ use std::alloc::Global;
 
 /// What is asked for: the forest of the sources, within the limit if there is one. Delta is checked and otherwise ignored.
 #[derive(Clone, Copy)]
-pub struct Near<'a> {
+pub struct ForestQuestion<'a> {
     pub sources: &'a [u32],
     pub limit: Option<u64>,
     pub delta: u64,
@@ -111,7 +111,11 @@ fn put_rooted<const P: u32>(
 }
 
 // Returns the part of the forest, if there is a limit and a search near the sources finds it.
-fn near_forest<const P: u32>(alloc: Global, at: At<P>, near: Near) -> Option<Forest<P>>
+fn near_forest<const P: u32>(
+    alloc: Global,
+    at: PreparedLayout<P>,
+    near: ForestQuestion,
+) -> Option<Forest<P>>
     requires bits { P ≡ pred_bits at.graph.now.n }
     requires n { IsCount at.graph.now.n }
     requires vertices { All (IsVertex at.graph.now.n) near.sources.now }
@@ -119,16 +123,20 @@ fn near_forest<const P: u32>(alloc: Global, at: At<P>, near: Near) -> Option<For
     ensures { IfSome result
         (IsForestAnswer P at.entry.graph.now near.entry.sources.now near.entry.limit) }
 {
-    let At { graph, room } = at;
+    let PreparedLayout { graph, pool } = at;
     fitting::<P>(graph);
     match near.limit {
-        Some(limit) => room.forest(alloc, graph, near.sources, limit),
+        Some(limit) => pool.forest(alloc, graph, near.sources, limit),
         None => None,
     }
 }
 
 // Returns the forest, found by a run.
-fn run_forest<const P: u32>(alloc: Global, graph: &Graph, near: Near) -> Result<Rooted<P>, RunError>
+fn run_forest<const P: u32>(
+    alloc: Global,
+    graph: &Graph,
+    near: ForestQuestion,
+) -> Result<Rooted<P>, RunError>
     requires layout { is_layout P ≡ true }
     requires n { graph.now.n ≤ max_pred P }
     requires vertices { All (IsVertex graph.now.n) near.sources.now }
@@ -149,12 +157,12 @@ fn run_forest<const P: u32>(alloc: Global, graph: &Graph, near: Near) -> Result<
 // Writes the forest.
 fn forest_by<const P: u32>(
     alloc: Global,
-    at: At<P>,
-    near: Near,
+    at: PreparedLayout<P>,
+    near: ForestQuestion,
     dist: &mut [u64],
     pred: &mut [u32],
     root: &mut [u32],
-) -> Told
+) -> Outcome
     requires bits { P ≡ pred_bits at.graph.now.n }
     requires n { IsCount at.graph.now.n }
     requires vertices { All (IsVertex at.graph.now.n) near.sources.now }
@@ -168,17 +176,17 @@ fn forest_by<const P: u32>(
 {
     if let Some(forest) = near_forest(alloc, at, near) {
         put_forest(&forest, dist, pred, root);
-        return Told::Tree;
+        return Outcome::Done;
     }
     fitting::<P>(at.graph);
     match run_forest::<P>(alloc, at.graph, near) {
         Ok(made) => {
             put_rooted(&made.words, &made.roots, dist, pred, root);
-            Told::Tree
+            Outcome::Done
         }
-        Err(RunError::TooFar(vertex)) => Told::TooFar(vertex),
+        Err(RunError::TooFar(vertex)) => Outcome::TooFar(vertex),
         Err(RunError::NoSuchVertex) => unreachable!(),
-        Err(RunError::Memory) => Told::Memory,
+        Err(RunError::Memory) => Outcome::Memory,
     }
 }
 
@@ -186,11 +194,11 @@ fn forest_by<const P: u32>(
 pub fn write_forest(
     alloc: Global,
     prepared: Prepared,
-    near: Near,
+    near: ForestQuestion,
     dist: &mut [u64],
     pred: &mut [u32],
     root: &mut [u32],
-) -> Told
+) -> Outcome
     ensures { IsForestOf prepared.entry.graph.now
         near.entry.sources.now near.entry.limit near.entry.delta
         (lists dist.old pred.old root.old) (lists dist.new pred.new root.new) result }

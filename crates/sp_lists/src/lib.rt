@@ -3,26 +3,26 @@
 //! distances; and the answer for one target. Each answer uses the layout with the greatest distances that can name the vertices.
 #![tactic(auto)]
 
-mod answers;
 mod cells;
 mod forest;
+mod found_words;
 mod limits;
 mod matrix;
+mod outcomes;
 mod parts;
 mod prepared;
 mod queries;
-mod rooms;
+mod search_pools;
 mod solving;
 mod targets;
-mod words;
 
-pub use answers::{Batch, Listed, Told};
 pub use cells::Cell;
-pub use forest::{Near, write_forest};
+pub use forest::{ForestQuestion, write_forest};
 pub use limits::{first_non_vertex, fits, is_count, is_vertex, reach};
 pub use matrix::write_matrix;
-pub use parts::{Part, list_part, write_part};
+pub use outcomes::{BatchOutcome, ListingOutcome, Outcome};
+pub use parts::{PartQuestion, list_part, write_part};
 pub use prepared::Prepared;
-pub use rooms::AnyRoom;
+pub use search_pools::AnySearchPool;
 pub use solving::write_trees;
 pub use targets::find_target;

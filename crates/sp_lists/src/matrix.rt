@@ -5,7 +5,7 @@ ghost use Rattle.sp_answer.specs.Pair.{answer_of};
 ghost use Rattle.sp_lists.specs.Limits.{IsCount, reach};
 ghost use Rattle.sp_lists.specs.Matrix.{IsDistance, ArePutAt, KeepsBut, IsRowIn, IsBlockIn, IsMatrixOf};
 
-use crate::answers::{Batch, Told};
+use crate::outcomes::{BatchOutcome, Outcome};
 use crate::prepared::Prepared;
 use crate::queries::Query;
 use crate::targets::find_answers;
@@ -14,7 +14,7 @@ use std::alloc::Global;
 
 // A source, and the index from which its row is written.
 #[derive(Clone, Copy)]
-struct Row {
+struct RowPlace {
     source: u32,
     low: usize,
 }
@@ -42,7 +42,13 @@ fn put_row(answers: &[PairAnswer], low: usize, dist: &mut [u64])
 }
 
 // Writes the row of a source. A row without places needs no search.
-fn row_at(alloc: Global, prepared: Prepared, row: Row, targets: &[u32], dist: &mut [u64]) -> Told
+fn row_at(
+    alloc: Global,
+    prepared: Prepared,
+    row: RowPlace,
+    targets: &[u32],
+    dist: &mut [u64],
+) -> Outcome
     requires n { IsCount prepared.graph.now.n }
     requires vertex { IsVertex prepared.graph.now.n row.source }
     requires targets { All (IsVertex prepared.graph.now.n) targets.now }
@@ -51,14 +57,14 @@ fn row_at(alloc: Global, prepared: Prepared, row: Row, targets: &[u32], dist: &m
         row.source targets.now row.low dist.old dist.new result }
 {
     if targets.is_empty() {
-        return Told::Tree;
+        return Outcome::Done;
     }
     match find_answers(alloc, prepared, row.source, targets) {
         Ok(answers) => {
             put_row(answers.as_slice(), row.low, dist);
-            Told::Tree
+            Outcome::Done
         }
-        Err(_) => Told::Memory,
+        Err(_) => Outcome::Memory,
     }
 }
 
@@ -69,7 +75,7 @@ fn rows_in(
     sources: &[u32],
     targets: &[u32],
     dist: &mut [u64],
-) -> Batch
+) -> BatchOutcome
     requires n { IsCount prepared.graph.now.n }
     requires sources { All (IsVertex prepared.graph.now.n) sources.now }
     requires targets { All (IsVertex prepared.graph.now.n) targets.now }
@@ -79,19 +85,19 @@ fn rows_in(
 {
     let mut low: usize = 0;
     for place in 0..sources.len() {
-        let row = Row {
+        let row = RowPlace {
             source: sources[place],
             low,
         };
         match row_at(alloc, prepared, row, targets, dist) {
-            Told::Tree => {}
-            told => return Batch { done: place, told },
+            Outcome::Done => {}
+            told => return BatchOutcome { done: place, told },
         }
         low += targets.len();
     }
-    Batch {
+    BatchOutcome {
         done: sources.len(),
-        told: Told::Tree,
+        told: Outcome::Done,
     }
 }
 
@@ -104,7 +110,7 @@ pub fn write_matrix(
     targets: &[u32],
     delta: u64,
     dist: &mut [u64],
-) -> Batch
+) -> BatchOutcome
     ensures { IsMatrixOf prepared.entry.graph.now sources.now targets.now delta
         dist.old dist.new result }
 {
@@ -117,7 +123,7 @@ pub fn write_matrix(
         columns: targets.len(),
     };
     if let Some(told) = query.refusal(prepared.n(), dist.len()) {
-        return Batch::none(told);
+        return BatchOutcome::none(told);
     }
     rows_in(alloc, prepared, sources, targets, dist)
 }

@@ -4,12 +4,12 @@ ghost use Rattle.sp_paths.specs.Paths.{IsVertex};
 ghost use Rattle.sp_answer.specs.Within.{IsTreeWithin};
 ghost use Rattle.sp_lists.specs.Limits.{IsCount, pred_bits, reach};
 ghost use Rattle.sp_lists.specs.Blocks.{slices};
-ghost use Rattle.sp_lists.specs.Part.{IsPartIn, IsPartOf};
+ghost use Rattle.sp_lists.specs.PartQuestion.{IsPartIn, IsPartOf};
 ghost use Rattle.sp_lists.specs.Listed.{listing, HasRows, KeepsListingFrom, IsListIn, IsListOf};
 
-use crate::answers::{Listed, Told};
 use crate::cells::{cell_of, put_cells};
-use crate::prepared::{At, Prepared, by_layout, fitting};
+use crate::outcomes::{ListingOutcome, Outcome};
+use crate::prepared::{Prepared, PreparedLayout, by_layout, fitting};
 use crate::queries::Query;
 use sp_answer::Tree;
 use sp_serial::{ByCaller, part_near};
@@ -19,33 +19,37 @@ use std::alloc::{AllocError, Global};
 /// What is asked for: the part of the tree from a source within the limit. A delta above the greatest distance is refused; any
 /// other is ignored.
 #[derive(Clone, Copy)]
-pub struct Part {
+pub struct PartQuestion {
     pub source: u32,
     pub limit: u64,
     pub delta: u64,
 }
 
 // Returns the part of a tree, found by a search near the source or by a run.
-fn find_part<const P: u32>(alloc: Global, at: At<P>, part: Part) -> Result<Tree<P>, AllocError>
+fn find_part<const P: u32>(
+    alloc: Global,
+    at: PreparedLayout<P>,
+    part: PartQuestion,
+) -> Result<Tree<P>, AllocError>
     requires bits { P ≡ pred_bits at.graph.now.n }
     requires n { IsCount at.graph.now.n }
     requires vertex { IsVertex at.graph.now.n part.source }
     requires limit { part.limit ≤ reach at.graph.now.n }
     ensures { IfOk result (IsTreeWithin at.entry.graph.now part.source part.limit) }
 {
-    let At { graph, room } = at;
+    let PreparedLayout { graph, pool } = at;
     fitting::<P>(graph);
-    part_near(&ByCaller, room, alloc, graph, part.source, part.limit)
+    part_near(&ByCaller, pool, alloc, graph, part.source, part.limit)
 }
 
 // Writes the part of a tree.
 fn part_by<const P: u32>(
     alloc: Global,
-    at: At<P>,
-    part: Part,
+    at: PreparedLayout<P>,
+    part: PartQuestion,
     dist: &mut [u64],
     pred: &mut [u32],
-) -> Told
+) -> Outcome
     requires bits { P ≡ pred_bits at.graph.now.n }
     requires n { IsCount at.graph.now.n }
     requires vertex { IsVertex at.graph.now.n part.source }
@@ -58,9 +62,9 @@ fn part_by<const P: u32>(
     match find_part(alloc, at, part) {
         Ok(tree) => {
             put_cells(&tree, dist, pred);
-            Told::Tree
+            Outcome::Done
         }
-        Err(_) => Told::Memory,
+        Err(_) => Outcome::Memory,
     }
 }
 
@@ -68,10 +72,10 @@ fn part_by<const P: u32>(
 pub fn write_part(
     alloc: Global,
     prepared: Prepared,
-    part: Part,
+    part: PartQuestion,
     dist: &mut [u64],
     pred: &mut [u32],
-) -> Told
+) -> Outcome
     ensures { IsPartOf prepared.entry.graph.now part.source part.limit part.delta
         (slices dist.old pred.old) (slices dist.new pred.new) result }
 {
@@ -116,12 +120,12 @@ fn put_rows<const P: u32>(
 // Writes the list of a part, if there are places for it.
 fn list_by<const P: u32>(
     alloc: Global,
-    at: At<P>,
-    part: Part,
+    at: PreparedLayout<P>,
+    part: PartQuestion,
     vertex: &mut [u32],
     dist: &mut [u64],
     pred: &mut [u32],
-) -> Listed
+) -> ListingOutcome
     requires bits { P ≡ pred_bits at.graph.now.n }
     requires n { IsCount at.graph.now.n }
     requires source { IsVertex at.graph.now.n part.source }
@@ -130,19 +134,19 @@ fn list_by<const P: u32>(
         (listing vertex.old dist.old pred.old) (listing vertex.new dist.new pred.new) result }
 {
     let Ok(tree) = find_part(alloc, at, part) else {
-        return Listed::none(Told::Memory);
+        return ListingOutcome::none(Outcome::Memory);
     };
     let rows = tree.rows();
     let count = rows.len();
     if count > vertex.len().min(dist.len()).min(pred.len()) {
-        return Listed {
-            told: Told::BadSize,
+        return ListingOutcome {
+            told: Outcome::BadSize,
             count,
         };
     }
     put_rows(rows, vertex, dist, pred);
-    Listed {
-        told: Told::Tree,
+    ListingOutcome {
+        told: Outcome::Done,
         count,
     }
 }
@@ -152,11 +156,11 @@ fn list_by<const P: u32>(
 pub fn list_part(
     alloc: Global,
     prepared: Prepared,
-    part: Part,
+    part: PartQuestion,
     vertex: &mut [u32],
     dist: &mut [u64],
     pred: &mut [u32],
-) -> Listed
+) -> ListingOutcome
     ensures { IsListOf prepared.entry.graph.now part.source part.limit part.delta
         (listing vertex.old dist.old pred.old) (listing vertex.new dist.new pred.new) result }
 {
@@ -170,7 +174,7 @@ pub fn list_part(
         columns: 0,
     };
     if let Some(told) = query.refusal(prepared.n(), 0) {
-        return Listed::none(told);
+        return ListingOutcome::none(told);
     }
     by_layout!(prepared, at => list_by(alloc, at, part, vertex, dist, pred))
 }

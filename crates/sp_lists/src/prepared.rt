@@ -3,22 +3,22 @@ ghost use Rattle.std.specs.Prelude.{◌≡◌, ◌≤◌, true};
 ghost use Rattle.sp_word.specs.Word.{is_layout, max_dist, max_pred};
 ghost use Rattle.sp_lists.specs.Limits.{IsCount, pred_bits, reach};
 
-use crate::rooms::AnyRoom;
+use crate::search_pools::AnySearchPool;
 use sp_graph::Graph;
-use sp_serial::OwnRoom;
+use sp_serial::OwnSearchPool;
 
-/// A graph about which questions are asked, and a room for the searches in it.
+/// A graph about which questions are asked, and buffers for the searches in it.
 #[derive(Clone, Copy)]
 pub struct Prepared<'a> {
     pub graph: &'a Graph,
-    pub room: &'a AnyRoom,
+    pub pool: &'a AnySearchPool,
 }
 
-/// A graph, and a room for the searches in it, in words with P bits of predecessor.
+/// A graph, and buffers for the searches in it, in words with P bits of predecessor.
 #[derive(Clone, Copy)]
-pub(crate) struct At<'a, const P: u32> {
+pub(crate) struct PreparedLayout<'a, const P: u32> {
     pub graph: &'a Graph,
-    pub room: &'a OwnRoom<P>,
+    pub pool: &'a OwnSearchPool<P>,
 }
 
 /// Calls a function for the layout with the greatest distances that can name the vertices of a graph.
@@ -27,27 +27,27 @@ macro_rules! by_layout {
         let graph = $prepared.graph;
         let n = graph.n();
         if n <= 1_048_574 {
-            let $at = $crate::prepared::At {
+            let $at = $crate::prepared::PreparedLayout {
                 graph,
-                room: &$prepared.room.of20,
+                pool: &$prepared.pool.of20,
             };
             $call
         } else if n <= 16_777_214 {
-            let $at = $crate::prepared::At {
+            let $at = $crate::prepared::PreparedLayout {
                 graph,
-                room: &$prepared.room.of24,
+                pool: &$prepared.pool.of24,
             };
             $call
         } else if n <= 268_435_454 {
-            let $at = $crate::prepared::At {
+            let $at = $crate::prepared::PreparedLayout {
                 graph,
-                room: &$prepared.room.of28,
+                pool: &$prepared.pool.of28,
             };
             $call
         } else {
-            let $at = $crate::prepared::At {
+            let $at = $crate::prepared::PreparedLayout {
                 graph,
-                room: &$prepared.room.of32,
+                pool: &$prepared.pool.of32,
             };
             $call
         }

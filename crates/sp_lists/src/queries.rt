@@ -4,8 +4,8 @@ ghost use Rattle.sp_paths.specs.Paths.{IsVertex};
 ghost use Rattle.sp_lists.specs.Limits.{IsCount, IsFirstWithout};
 ghost use Rattle.sp_lists.specs.Query.{query_of, IsLimit, IsGoodQuery, IsRefusedQuery};
 
-use crate::answers::Told;
 use crate::limits::{first_non_vertex, fits, is_count, reach};
+use crate::outcomes::Outcome;
 
 /// What is asked: the sources and targets, the delta, which is only checked, the limit if there is one, and the number of rows
 /// that are written and the number of places in each.
@@ -47,20 +47,20 @@ impl Query<'_> {
 
     /// Returns the first of the size, the delta, the limit, the sources and the targets that is wrong, if any is, in a graph
     /// of `n` vertices. Each list that is written has `places` places.
-    pub(crate) fn refusal(&self, n: u32, places: usize) -> Option<Told>
+    pub(crate) fn refusal(&self, n: u32, places: usize) -> Option<Outcome>
         ensures refused { IfSome result (IsRefusedQuery n (query_of self.now) places) }
         ensures good { IfNone result (IsGoodQuery n (query_of self.now) places) }
     {
         if !is_count(n) || !fits(self.rows, self.columns, places) {
-            return Some(Told::BadSize);
+            return Some(Outcome::BadSize);
         }
         if self.delta > reach(n) {
-            return Some(Told::BadDelta);
+            return Some(Outcome::BadDelta);
         }
         if !is_limit(n, self.limit) {
-            return Some(Told::BadLimit);
+            return Some(Outcome::BadLimit);
         }
         let place = self.first_none(n)?;
-        Some(Told::NoSuchVertex(place))
+        Some(Outcome::NoSuchVertex(place))
     }
 }

@@ -4,16 +4,16 @@ ghost use Rattle.sp_paths.specs.Paths.{IsVertex};
 ghost use Rattle.sp_lists.specs.Limits.{IsCount, pred_bits, reach};
 ghost use Rattle.sp_lists.specs.Blocks.{slices, IsSolvedAt, AreSolved};
 
-use crate::answers::{Batch, Told};
 use crate::cells::put_words;
-use crate::prepared::{At, Prepared, by_layout, fitting};
-use crate::words::find_words;
+use crate::found_words::find_words;
+use crate::outcomes::{BatchOutcome, Outcome};
+use crate::prepared::{Prepared, PreparedLayout, by_layout, fitting};
 use sp_serial::RunError;
 use std::alloc::Global;
 
 // A source, and the index from which its tree is written.
 #[derive(Clone, Copy)]
-struct Block {
+struct TreePlace {
     source: u32,
     low: usize,
 }
@@ -21,11 +21,11 @@ struct Block {
 // Writes the tree of a source.
 fn tree_by<const P: u32>(
     alloc: Global,
-    at: At<P>,
-    block: Block,
+    at: PreparedLayout<P>,
+    block: TreePlace,
     dist: &mut [u64],
     pred: &mut [u32],
-) -> Told
+) -> Outcome
     requires bits { P ≡ pred_bits at.graph.now.n }
     requires n { IsCount at.graph.now.n }
     requires vertex { IsVertex at.graph.now.n block.source }
@@ -34,16 +34,16 @@ fn tree_by<const P: u32>(
     ensures { IsSolvedAt (reach at.entry.graph.now.n) at.entry.graph.now block.source block.low
         (slices dist.old pred.old) (slices dist.new pred.new) result }
 {
-    let Block { source, low } = block;
+    let TreePlace { source, low } = block;
     fitting::<P>(at.graph);
     match find_words::<P>(alloc, at.graph, &[source], None) {
         Ok(words) => {
             put_words(words.as_slice(), low, dist, pred);
-            Told::Tree
+            Outcome::Done
         }
-        Err(RunError::TooFar(vertex)) => Told::TooFar(vertex),
+        Err(RunError::TooFar(vertex)) => Outcome::TooFar(vertex),
         Err(RunError::NoSuchVertex) => unreachable!(),
-        Err(RunError::Memory) => Told::Memory,
+        Err(RunError::Memory) => Outcome::Memory,
     }
 }
 
@@ -51,10 +51,10 @@ fn tree_by<const P: u32>(
 fn solve_at(
     alloc: Global,
     prepared: Prepared,
-    block: Block,
+    block: TreePlace,
     dist: &mut [u64],
     pred: &mut [u32],
-) -> Told
+) -> Outcome
     requires n { IsCount prepared.graph.now.n }
     requires vertex { IsVertex prepared.graph.now.n block.source }
     requires dist { block.low + prepared.graph.now.n ≤ length dist.old }
@@ -73,7 +73,7 @@ pub fn write_trees(
     sources: &[u32],
     dist: &mut [u64],
     pred: &mut [u32],
-) -> Batch
+) -> BatchOutcome
     requires n { IsCount prepared.graph.now.n }
     requires vertices { All (IsVertex prepared.graph.now.n) sources.now }
     requires dist { length sources.now * prepared.graph.now.n ≤ length dist.old }
@@ -84,18 +84,18 @@ pub fn write_trees(
     let n = prepared.n() as usize;
     let mut low: usize = 0;
     for place in 0..sources.len() {
-        let block = Block {
+        let block = TreePlace {
             source: sources[place],
             low,
         };
         match solve_at(alloc, prepared, block, dist, pred) {
-            Told::Tree => {}
-            told => return Batch { done: place, told },
+            Outcome::Done => {}
+            told => return BatchOutcome { done: place, told },
         }
         low += n;
     }
-    Batch {
+    BatchOutcome {
         done: sources.len(),
-        told: Told::Tree,
+        told: Outcome::Done,
     }
 }

@@ -1,25 +1,25 @@
 //! The answers for targets of a source.
 ghost use Rattle.std.specs.Prelude.{◌≡◌, ℕ, All, IfOk};
 ghost use Rattle.sp_paths.specs.Paths.{Graph as Network, IsVertex};
-ghost use Rattle.sp_forest.specs.Run.{IsAnswerFor, AreAnswersFor};
+ghost use Rattle.sp_answer.specs.Run.{IsAnswerFor, AreAnswersFor};
 ghost use Rattle.sp_lists.specs.Limits.{IsCount, pred_bits, reach};
 ghost use Rattle.sp_lists.specs.Target.{IsFoundIn};
 
-use crate::answers::Told;
 use crate::cells::Cell;
-use crate::prepared::{At, Prepared, by_layout, fitting};
+use crate::outcomes::Outcome;
+use crate::prepared::{Prepared, PreparedLayout, by_layout, fitting};
 use sp_answer::PairAnswer;
 use sp_serial::{ByCaller, answers_near};
 use std::alloc::{AllocError, Global};
 
 // Converts an answer: no distance is equal to the greatest number, which stands for no walk.
-fn of_answer(answer: PairAnswer) -> Result<Cell, Told>
+fn of_answer(answer: PairAnswer) -> Result<Cell, Outcome>
     ensures { (g : Network) (s t max : ℕ) → IsAnswerFor g s t max answer
         → IsFoundIn max g s t result }
 {
     match answer {
         PairAnswer::Found { dist, pred } => Ok(Cell { dist, pred }),
-        PairAnswer::TooFar(vertex) => Err(Told::TooFar(vertex)),
+        PairAnswer::TooFar(vertex) => Err(Outcome::TooFar(vertex)),
         PairAnswer::NoWalk => Ok(Cell::unreached()),
     }
 }
@@ -27,7 +27,7 @@ fn of_answer(answer: PairAnswer) -> Result<Cell, Told>
 // Returns the answers for targets, found by a search near the source or by a run.
 fn answers_by<const P: u32>(
     alloc: Global,
-    at: At<P>,
+    at: PreparedLayout<P>,
     source: u32,
     targets: &[u32],
 ) -> Result<Vec<PairAnswer>, AllocError>
@@ -38,9 +38,9 @@ fn answers_by<const P: u32>(
     ensures { IfOk result (λ answers. AreAnswersFor at.entry.graph.now source
         (reach at.entry.graph.now.n) targets.now answers.items) }
 {
-    let At { graph, room } = at;
+    let PreparedLayout { graph, pool } = at;
     fitting::<P>(graph);
-    answers_near(&ByCaller, room, alloc, graph, source, targets)
+    answers_near(&ByCaller, pool, alloc, graph, source, targets)
 }
 
 /// Returns the answers for targets of a source, in their order. The search ends as soon as they are known.
@@ -66,7 +66,7 @@ pub fn find_target(
     prepared: Prepared,
     source: u32,
     target: u32,
-) -> Result<Cell, Told>
+) -> Result<Cell, Outcome>
     requires n { IsCount prepared.graph.now.n }
     requires source { IsVertex prepared.graph.now.n source }
     requires target { IsVertex prepared.graph.now.n target }
@@ -76,6 +76,6 @@ pub fn find_target(
     let targets = [target];
     match find_answers(alloc, prepared, source, &targets) {
         Ok(answers) => of_answer(answers[0]),
-        Err(_) => Err(Told::Memory),
+        Err(_) => Err(Outcome::Memory),
     }
 }

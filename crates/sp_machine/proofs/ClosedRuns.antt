@@ -25,7 +25,7 @@ use Rattle.sp_machine.specs.declared.actor.Actor.{Actor}
 use Rattle.sp_machine.specs.declared.report.Finished.{Finished}
 use Rattle.sp_machine.specs.Programme.{Programme, IsNumber, opening_words}
 use Rattle.sp_machine.specs.Step.{Machine, at, vertex_at, turn, offer_turn, load_turn, ends_item, beyond, actor_after, call_ended, with_caller, relaxation, fresh_actor, actor_of, item_at, place_of, found_by}
-use Rattle.sp_machine.specs.Run.{Run, first_step, with_call, with_relaxation, opening_run, run_step, run_from, run_of, IsItemClosed}
+use Rattle.sp_machine.specs.Run.{RunState, first_step, with_call, with_relaxation, opening_run, run_step, run_from, run_of, IsItemClosed}
 use Rattle.sp_machine.specs.Linear.{question_of, event_of}
 use Rattle.sp_machine.specs.Relaxing.{graph_of, IsRelaxOrRead}
 use Rattle.sp_machine.specs.Theorems.{ClosedRunEndsInTree}
@@ -189,10 +189,10 @@ more_relaxed {P} g rows events actors relaxed actor vertex call now finished bef
         go (inr same) = good u v l d (ap Some same) fits
 
 -- of a run
-abbrev IsRelaxingRun : {P : ℕ} → Graph → Run P → Type 0
+abbrev IsRelaxingRun : {P : ℕ} → Graph → RunState P → Type 0
 IsRelaxingRun g r = IsByRelaxing g r.machine.rows (map event_of r.log.calls) r.machine.actors r.log.relaxed
 
-relaxing_step : {P : ℕ} (g : Graph) (r : Run P) (actor : ℕ) → ((i : Item P) → item_at r.machine actor ≡ Some i → IsRelaxOrRead i) → ((u v l : ℕ) → item_at r.machine actor ≡ Some (Relax u v l) → HasArc g u v l)
+relaxing_step : {P : ℕ} (g : Graph) (r : RunState P) (actor : ℕ) → ((i : Item P) → item_at r.machine actor ≡ Some i → IsRelaxOrRead i) → ((u v l : ℕ) → item_at r.machine actor ≡ Some (Relax u v l) → HasArc g u v l)
     → IsRelaxingRun g r → IsRelaxingRun g (run_step r actor)
 relaxing_step {P} g r actor allowed arcs before =
     let good = step_good g (get_or m.rows (actor - 1) []) events actor a x before.by_arcs (before.loaded (actor - 1)) (item_at m actor) a.loaded refl refl allowed arcs in
@@ -221,7 +221,7 @@ relaxing_step {P} g r actor allowed arcs before =
     call : Option (Call P)
     call = call_ended place t x
 
-relaxing_run : {P : ℕ} (g : Graph) (r : Run P) (actors : List ℕ) → ((i k : ℕ) (item : Item P) → slice_get (get_or r.machine.rows i []) k ≡ Some item → IsRelaxOrRead item)
+relaxing_run : {P : ℕ} (g : Graph) (r : RunState P) (actors : List ℕ) → ((i k : ℕ) (item : Item P) → slice_get (get_or r.machine.rows i []) k ≡ Some item → IsRelaxOrRead item)
     → ((i k u v l : ℕ) → slice_get (get_or r.machine.rows i []) k ≡ Some (Relax u v l) → HasArc g u v l) → IsRelaxingRun g r → IsRelaxingRun g (run_from r actors)
 relaxing_run g r [] allowed arcs before = before
 relaxing_run g r (actor ∷ more) allowed arcs before =
@@ -254,7 +254,7 @@ closed_run_ends_in_tree P p actors s is numbers from closed = closed_ends_in_tre
     g : Graph
     g = graph_of p
 
-    r : Run P
+    r : RunState P
     r = run_of p actors
 
     final : Table

@@ -13,7 +13,7 @@ use Rattle.sp_machine.specs.declared.actor.Actor.{Actor}
 use Rattle.sp_paths.specs.Paths.{word_at}
 use Rattle.sp_machine.specs.Programme.{Programme, IsNumber, opening_words}
 use Rattle.sp_machine.specs.Step.{vertex_at, turn, words_after, actor_after, exchange_of, Machine, fresh_actor, actor_of, place_of, found_by}
-use Rattle.sp_machine.specs.Run.{Run, win, loss, opening_run, run_step, run_from}
+use Rattle.sp_machine.specs.Run.{RunState, win, loss, opening_run, run_step, run_from}
 use Rattle.sp_machine.specs.Theorems.{LossesAreBounded}
 use Rattle.sp_machine.proofs.WordSteps.{same_itself}
 use Rattle.sp_machine.proofs.ListSteps.{copy_at}
@@ -103,12 +103,12 @@ module _ {P : ℕ} (k : ℕ) (rows : List (List (Item P))) (actors : List (Actor
       rw (words_kept words (place_at rows i (actor_at actors i)) t refl) (omega arith)
 
 -- what is so of a run of k actors after any number of steps
-record IsBounded {P : ℕ} (k : ℕ) (r : Run P) : Type 0 where
+record IsBounded {P : ℕ} (k : ℕ) (r : RunState P) : Type 0 where
   size : length r.machine.actors ≡ k
   bound : r.log.losses + stale_actors r.machine.rows r.machine.words r.machine.actors k ≤ (k - 1) * r.log.wins
 
 -- a step keeps the bound
-bounded_step : {P : ℕ} (k : ℕ) (r : Run P) (actor : ℕ) → IsNumber k actor → IsBounded k r → IsBounded k (run_step r actor)
+bounded_step : {P : ℕ} (k : ℕ) (r : RunState P) (actor : ℕ) → IsNumber k actor → IsBounded k r → IsBounded k (run_step r actor)
 bounded_step {P} k r actor number bounded = record {
   size = length-set m.actors (actor - 1) (actor_after a t x) ∙ bounded.size;
   bound = turn_bounded k m.rows m.actors (actor - 1) (omega arith) bounded.size m.words r.log.losses r.log.wins t bounded.bound (loss_is_stale (max_dist P) (place_of m actor) a.held x);
@@ -127,7 +127,7 @@ bounded_step {P} k r actor number bounded = record {
     t = turn (max_dist P) (place_of m actor) a.held x
 
 -- a run keeps it
-bounded_run : {P : ℕ} (k : ℕ) (r : Run P) (actors : List ℕ) → All (IsNumber k) actors → IsBounded k r → IsBounded k (run_from r actors)
+bounded_run : {P : ℕ} (k : ℕ) (r : RunState P) (actors : List ℕ) → All (IsNumber k) actors → IsBounded k r → IsBounded k (run_from r actors)
 bounded_run k r [] numbers bounded = bounded
 bounded_run k r (actor ∷ more) numbers bounded = bounded_run k (run_step r actor) more (All-tail (IsNumber k) actor more numbers) (bounded_step k r actor (All-head (IsNumber k) actor more numbers) bounded)
 

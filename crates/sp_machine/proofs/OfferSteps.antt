@@ -4,7 +4,7 @@ use Rattle.std.proofs.lemmas.List.{get_or-set_same}
 use Rattle.sp_word.specs.declared.reply.Reply.TheVariants.{Kept}
 use Rattle.sp_word.specs.Word.{Word, Unreached, is_below, is_same, max_dist}
 use Rattle.sp_word.specs.Reply.{reply_to}
-use Rattle.sp_word.specs.Offering.{Stage, Holding, Over, offer_step, left_by_step}
+use Rattle.sp_word.specs.Offering.{OfferStage, Holding, Over, offer_step, left_by_step}
 use Rattle.sp_paths.specs.Paths.{word_at}
 use Rattle.sp_machine.specs.declared.turn.At.{At}
 use Rattle.sp_machine.specs.declared.turn.At.TheVariants.{Offering}
@@ -16,7 +16,7 @@ use Rattle.sp_machine.specs.OfferSteps.{stage_of, stage_after, OfferStepsAreTheM
 
 module _ (P : ℕ) (a : Actor P) (actor v : ℕ) (w x : Word) where
   -- the stage after a case of the step
-  abbrev stage_by : Turn → Stage
+  abbrev stage_by : Turn → OfferStage
   stage_by t = stage_after (with_caller {P = P} actor v (call_ended (Offering v w) t x)) (actor_after a t x).held
 
   loads : (b : Bool) → stage_by (if b then Holds else Keeps) ≡ (if b then Holding x else Over x Kept)

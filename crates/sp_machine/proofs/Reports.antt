@@ -11,7 +11,7 @@ use Rattle.sp_machine.specs.declared.report.Report.{Report}
 use Rattle.sp_paths.specs.Paths.{word_at, EndsInTree}
 use Rattle.sp_machine.specs.Programme.{Programme, IsProgramme, IsNumber, opening_words}
 use Rattle.sp_machine.specs.Step.{Machine}
-use Rattle.sp_machine.specs.Run.{Run, run_from, run_of, IsItemClosed, IsClosed}
+use Rattle.sp_machine.specs.Run.{RunState, run_from, run_of, IsItemClosed, IsClosed}
 use Rattle.sp_machine.specs.LogView.{log_of}
 use Rattle.sp_machine.specs.Linear.{IsLinear}
 use Rattle.sp_machine.specs.Relaxing.{graph_of, RelaxesFrom}
@@ -21,7 +21,7 @@ use Rattle.sp_machine.proofs.RunSteps.{run_is_linear}
 use Rattle.sp_machine.proofs.LostExchanges.{losses_are_few}
 
 -- no step is left
-pub whole_run : {P : ℕ} (r : Run P) (p : Programme P) (schedule : List ℕ) (i : ℕ) → run_from r (drop i schedule) ≡ run_of p schedule → length schedule ≤ i → r ≡ run_of p schedule
+pub whole_run : {P : ℕ} (r : RunState P) (p : Programme P) (schedule : List ℕ) (i : ℕ) → run_from r (drop i schedule) ≡ run_of p schedule → length schedule ≤ i → r ≡ run_of p schedule
 whole_run r p schedule i rest past = sym (at_drop_all (λ more. run_from r more) schedule i past) ∙ rest
 
 All-unmap : {X Y : Type 0} (F : Y → Type 0) (f : X → Y) (xs : List X) → All F (map f xs) → All (λ x. F (f x)) xs
@@ -44,7 +44,7 @@ reported {P = P} p schedule machine log words rows closed ran words_are rows_are
   words = words_are ∙ ap (λ r. r.machine.words) ran;
   wins = ap (λ r. r.log.wins) ran;
   losses = ap (λ r. r.log.losses) ran;
-  closed = subst (λ (r : Run P). IsTrue closed ↔ IsClosed p r.machine.words r.log.relaxed) ran (closed_rows p machine.words log.relaxed.items rows closed rows_are is);
+  closed = subst (λ (r : RunState P). IsTrue closed ↔ IsClosed p r.machine.words r.log.relaxed) ran (closed_rows p machine.words log.relaxed.items rows closed rows_are is);
 }
 
 pub linear : {P : ℕ} (p : Programme P) (schedule : List ℕ) (machine : Machine P) (log : Log P) (words : List Word) → IsProgramme p → All (IsNumber p.actors) schedule
@@ -52,12 +52,12 @@ pub linear : {P : ℕ} (p : Programme P) (schedule : List ℕ) (machine : Machin
     → IsLinear p.words (word_at (opening_words p)) log.calls.items (word_at words)
 linear {P = P} p schedule machine log words programme numbers ran words_are =
     subst (λ (end : List Word). IsLinear p.words (word_at (opening_words p)) log.calls.items (word_at end)) (sym words_are)
-    (subst (λ (r : Run P). IsLinear p.words (word_at (opening_words p)) r.log.calls (word_at r.machine.words)) (sym ran) (run_is_linear P p schedule programme numbers))
+    (subst (λ (r : RunState P). IsLinear p.words (word_at (opening_words p)) r.log.calls (word_at r.machine.words)) (sym ran) (run_is_linear P p schedule programme numbers))
 
 pub few_losses : {P : ℕ} (p : Programme P) (schedule : List ℕ) (machine : Machine P) (log : Log P) → IsProgramme p → All (IsNumber p.actors) schedule
     → record { machine = machine; log = log_of log } ≡ run_of p schedule → log.losses ≤ (p.actors - 1) * log.wins
 few_losses {P = P} p schedule machine log programme numbers ran =
-    subst (λ (r : Run P). r.log.losses ≤ (p.actors - 1) * r.log.wins) (sym ran) (losses_are_few P p schedule programme numbers)
+    subst (λ (r : RunState P). r.log.losses ≤ (p.actors - 1) * r.log.wins) (sym ran) (losses_are_few P p schedule programme numbers)
 
 -- a report that tells a closed run tells the tree
 pub tree : {P : ℕ} (p : Programme P) (schedule : List ℕ) (report : Report P) → IsProgramme p → All (IsNumber p.actors) schedule → IsReportOf p schedule report

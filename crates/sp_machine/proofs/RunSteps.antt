@@ -17,8 +17,8 @@ use Rattle.sp_machine.specs.declared.report.Finished.{Finished}
 use Rattle.sp_paths.specs.Paths.{word_at}
 use Rattle.sp_machine.specs.Programme.{Programme, IsProgramme, IsNumber, IsItem, item_of, named_words, opening_words}
 use Rattle.sp_machine.specs.Step.{actor_of, place_of, item_at, found_by, turn, fresh_actor, vertex_at, call_ended, words_after, actor_after, with_caller, Machine}
-use Rattle.sp_machine.specs.Run.{Log, Run, first_step, begun_after, with_call, opening_run, run_step, run_from, run_of}
-use Rattle.sp_machine.specs.Linear.{Point, IsLinear, event_of, history}
+use Rattle.sp_machine.specs.Run.{Log, RunState, first_step, begun_after, with_call, opening_run, run_step, run_from, run_of}
+use Rattle.sp_machine.specs.Linear.{LinearPoint, IsLinear, event_of, history}
 use Rattle.sp_machine.specs.Theorems.{EveryRunIsLinear}
 use Rattle.sp_machine.proofs.Histories.{run_push, legal_push}
 use Rattle.sp_machine.proofs.ListSteps.{rising_push, map-map, each_set, copy_at}
@@ -39,7 +39,7 @@ record IsTimely {P : ℕ} (steps : ℕ) (calls : List (Finished P)) : Type 0 whe
   rising : IsStrictlyIncreasing (map (λ call. call.last) calls)
 
 -- what is so of a run after any number of steps
-record IsSound {P : ℕ} (p : Programme P) (r : Run P) : Type 0 where
+record IsSound {P : ℕ} (p : Programme P) (r : RunState P) : Type 0 where
   rows : r.machine.rows ≡ p.rows
   size : length r.machine.words ≡ p.words
   held : (i : ℕ) → HoldsAt r.machine.rows i (actor_at r.machine.actors i)
@@ -90,7 +90,7 @@ begun_before steps None h = omega arith
 begun_before steps (Some first) h = omega arith
 
 -- a step keeps a run sound
-sound_step : {P : ℕ} (p : Programme P) (r : Run P) (actor : ℕ) → IsProgramme p → IsSound p r → IsSound p (run_step r actor)
+sound_step : {P : ℕ} (p : Programme P) (r : RunState P) (actor : ℕ) → IsProgramme p → IsSound p r → IsSound p (run_step r actor)
 sound_step {P} p r actor is sound = record {
   rows = sound.rows;
   size = words_size m.words place t ∙ sound.size;
@@ -130,7 +130,7 @@ sound_step {P} p r actor is sound = record {
     item i e = is.items actor a.next i (subst (λ rows. item_of rows actor a.next ≡ Some i) sound.rows e)
 
 -- a run stays sound
-sound_run : {P : ℕ} (p : Programme P) → IsProgramme p → (r : Run P) (actors : List ℕ) → IsSound p r → IsSound p (run_from r actors)
+sound_run : {P : ℕ} (p : Programme P) → IsProgramme p → (r : RunState P) (actors : List ℕ) → IsSound p r → IsSound p (run_from r actors)
 sound_run p is r [] sound = sound
 sound_run p is r (actor ∷ more) sound = sound_run p is (run_step r actor) more (sound_step p r actor is sound)
 
@@ -151,15 +151,15 @@ sound_opening {P} p = record {
 }
 
 -- a finished call acts at its last step
-abbrev point_of : {P : ℕ} → Finished P → Point P
+abbrev point_of : {P : ℕ} → Finished P → LinearPoint P
 point_of call = record { step = call.last; call = call }
 
 -- a sound run is linear
-linear_run : {P : ℕ} (p : Programme P) (r : Run P) → IsSound p r → IsLinear p.words (word_at (opening_words p)) r.log.calls (word_at r.machine.words)
+linear_run : {P : ℕ} (p : Programme P) (r : RunState P) → IsSound p r → IsLinear p.words (word_at (opening_words p)) r.log.calls (word_at r.machine.words)
 linear_run {P} p r sound = record {
   points = map point_of calls;
-  each_once = rw (map-map (λ (point : Point P). point.call) point_of calls, map-id calls) (IsPermutation-refl calls);
-  rising = rw (map-map (λ (point : Point P). point.step) point_of calls) sound.timely.rising;
+  each_once = rw (map-map (λ (point : LinearPoint P). point.call) point_of calls, map-id calls) (IsPermutation-refl calls);
+  rising = rw (map-map (λ (point : LinearPoint P). point.step) point_of calls) sound.timely.rising;
   within = All-map (λ point. (point.call.first ≤ point.step) × (point.step ≤ point.call.last)) point_of calls
       (All-weaker (EndedBy r.log.steps) (λ call. EndedBy call.last call) (λ call h. (h.0, le_refl call.last)) calls sound.timely.within);
   legal = rw same sound.told.legal;
@@ -170,7 +170,7 @@ linear_run {P} p r sound = record {
     calls = r.log.calls
 
     same : history (map point_of calls) ≡ map event_of calls
-    same = map-map (λ (point : Point P). event_of point.call) point_of calls
+    same = map-map (λ (point : LinearPoint P). event_of point.call) point_of calls
 
 -- every run is linear
 pub run_is_linear : EveryRunIsLinear

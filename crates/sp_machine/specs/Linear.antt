@@ -18,19 +18,19 @@ abbrev pub event_of : {P : ℕ} → Finished P → Event
 event_of call = record { by = call.ended.actor; vertex = call.ended.vertex; call = question_of call.ended.call }
 
 -- This is a finished call, and the step at which it takes effect.
-pub record Point (P : ℕ) : Type 0 where
+pub record LinearPoint (P : ℕ) : Type 0 where
   pub step : ℕ
   pub call : Finished P
 
 -- This is the history of these finished calls.
-abbrev pub history : {P : ℕ} → List (Point P) → List Event
+abbrev pub history : {P : ℕ} → List (LinearPoint P) → List Event
 history points = map (λ point. event_of point.call) points
 
 -- There is a history, legal from the opening words, that consists of exactly the finished calls, each once with its
 -- answer. Its step numbers rise, and each is between its call's first and last step. The history ends in the final
 -- words.
 pub record IsLinear {P : ℕ} (n : ℕ) (opening : Table) (finished : List (Finished P)) (final : Table) : Type 0 where
-  pub points : List (Point P)
+  pub points : List (LinearPoint P)
   pub each_once : IsPermutation finished (map (λ point. point.call) points)
   pub rising : IsStrictlyIncreasing (map (λ point. point.step) points)
   pub within : All (λ point. (point.call.first ≤ point.step) × (point.step ≤ point.call.last)) points

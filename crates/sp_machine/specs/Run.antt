@@ -5,8 +5,8 @@ use Rattle.sp_machine.specs.declared.item.Item.{Item}
 use Rattle.sp_machine.specs.declared.item.Item.TheVariants.{Offer, Read, Relax}
 use Rattle.sp_machine.specs.declared.effect.Ended.{Ended}
 use Rattle.sp_machine.specs.declared.effect.Relaxation.{Relaxation}
-use Rattle.sp_machine.specs.declared.effect.Exchange.{Exchange}
-use Rattle.sp_machine.specs.declared.effect.Exchange.TheVariants.{Won, Lost}
+use Rattle.sp_machine.specs.declared.effect.ExchangeOutcome.{ExchangeOutcome}
+use Rattle.sp_machine.specs.declared.effect.ExchangeOutcome.TheVariants.{Won, Lost}
 use Rattle.sp_machine.specs.declared.effect.Effect.{Effect}
 use Rattle.sp_machine.specs.declared.report.Finished.{Finished}
 use Rattle.sp_paths.specs.Paths.{word_at}
@@ -51,13 +51,13 @@ with_relaxation relaxed None = relaxed
 with_relaxation relaxed (Some r) = relaxed ++ r ∷ []
 
 -- This counts a won exchange.
-abbrev pub win : Option Exchange → ℕ
+abbrev pub win : Option ExchangeOutcome → ℕ
 win None = 0
 win (Some Won) = 1
 win (Some Lost) = 0
 
 -- This counts a lost exchange.
-abbrev pub loss : Option Exchange → ℕ
+abbrev pub loss : Option ExchangeOutcome → ℕ
 loss None = 0
 loss (Some Won) = 0
 loss (Some Lost) = 1
@@ -74,7 +74,7 @@ log_after log actor effect = record {
 }
 
 -- A run so far: its machine and its log.
-pub record Run (P : ℕ) : Type 0 where
+pub record RunState (P : ℕ) : Type 0 where
   pub machine : Machine P
   pub log : Log P
 
@@ -88,20 +88,20 @@ opening_machine p = record {
 }
 
 -- This is the run before the first step.
-abbrev pub opening_run : {P : ℕ} → Programme P → Run P
+abbrev pub opening_run : {P : ℕ} → Programme P → RunState P
 opening_run p = record { machine = opening_machine p; log = empty_log p.actors }
 
 -- This is one step of an actor.
-abbrev pub run_step : {P : ℕ} → Run P → ℕ → Run P
+abbrev pub run_step : {P : ℕ} → RunState P → ℕ → RunState P
 run_step r actor = record { machine = machine_after r.machine actor; log = log_after r.log actor (machine_after r.machine actor).last }
 
 -- This is the run after one more step of each of these actors in turn.
-abbrev pub run_from : {P : ℕ} → Run P → List ℕ → Run P
+abbrev pub run_from : {P : ℕ} → RunState P → List ℕ → RunState P
 run_from r [] = r
 run_from r (actor ∷ more) = run_from (run_step r actor) more
 
 -- This is the run of a programme with a list of actors, one step for each entry.
-abbrev pub run_of : {P : ℕ} → Programme P → List ℕ → Run P
+abbrev pub run_of : {P : ℕ} → Programme P → List ℕ → RunState P
 run_of p actors = run_from (opening_run p) actors
 
 -- If an item is a relaxation whose tail is reached at the end, some finished relaxation of the same arc loaded the

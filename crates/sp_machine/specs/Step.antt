@@ -13,8 +13,8 @@ use Rattle.sp_machine.specs.declared.effect.Call.{Call}
 use Rattle.sp_machine.specs.declared.effect.Call.TheVariants as calls
 use Rattle.sp_machine.specs.declared.effect.Ended.{Ended}
 use Rattle.sp_machine.specs.declared.effect.Relaxation.{Relaxation}
-use Rattle.sp_machine.specs.declared.effect.Exchange.{Exchange}
-use Rattle.sp_machine.specs.declared.effect.Exchange.TheVariants.{Won, Lost}
+use Rattle.sp_machine.specs.declared.effect.ExchangeOutcome.{ExchangeOutcome}
+use Rattle.sp_machine.specs.declared.effect.ExchangeOutcome.TheVariants.{Won, Lost}
 use Rattle.sp_machine.specs.declared.effect.Effect.{Effect}
 use Rattle.sp_machine.specs.declared.actor.Actor.{Actor}
 use Rattle.sp_paths.specs.Paths.{word_at}
@@ -128,7 +128,7 @@ with_caller actor vertex None = None
 with_caller actor vertex (Some call) = Some (record { actor = actor; vertex = vertex; call = call })
 
 -- This is the outcome of the step's exchange, if it made one.
-abbrev pub exchange_of : Turn → Option Exchange
+abbrev pub exchange_of : Turn → Option ExchangeOutcome
 exchange_of Rests = None
 exchange_of Keeps = None
 exchange_of Holds = None

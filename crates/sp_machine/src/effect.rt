@@ -44,7 +44,7 @@ pub struct Relaxation {
 
 /// The outcome of an exchange.
 #[derive(Clone, Copy, Debug, PartialEq, Eq)]
-pub enum Exchange {
+pub enum ExchangeOutcome {
     /// The word found was the word held, and the offer was stored.
     Won,
     /// The word found was a different one, and nothing was stored.
@@ -56,7 +56,7 @@ pub enum Exchange {
 pub struct Effect<const P: u32> {
     pub ended: Option<Ended<P>>,
     pub relaxed: Option<Relaxation>,
-    pub exchange: Option<Exchange>,
+    pub exchange: Option<ExchangeOutcome>,
 }
 
 impl<const P: u32> Effect<P> {
@@ -105,12 +105,12 @@ fn call_ended<const P: u32>(place: &At<P>, turn: Turn, found: Word<P>) -> Option
     }
 }
 
-fn exchange_of(turn: Turn) -> Option<Exchange>
+fn exchange_of(turn: Turn) -> Option<ExchangeOutcome>
     ensures { result ≡ exchange_of turn }
 {
     match turn {
-        Turn::Wins => Some(Exchange::Won),
-        Turn::LosesAndKeeps | Turn::LosesAndHolds => Some(Exchange::Lost),
+        Turn::Wins => Some(ExchangeOutcome::Won),
+        Turn::LosesAndKeeps | Turn::LosesAndHolds => Some(ExchangeOutcome::Lost),
         _ => None,
     }
 }

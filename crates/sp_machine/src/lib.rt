@@ -16,7 +16,7 @@ mod running;
 mod turn;
 
 pub use actor::Actor;
-pub use effect::{Call, Effect, Ended, Exchange, Relaxation};
+pub use effect::{Call, Effect, Ended, ExchangeOutcome, Relaxation};
 pub use item::Item;
 pub use laws::{
     closed_run_ends_in_tree, every_run_is_linear, losses_are_bounded, offer_steps_are_the_machines,

@@ -4,7 +4,7 @@ ghost use Rattle.std.specs.Option.{option_copied};
 ghost use Rattle.sp_machine.specs.Programme.{IsNumber};
 ghost use Rattle.sp_machine.specs.Run.{with_call, with_relaxation, win, loss};
 
-use crate::effect::{Effect, Ended, Exchange, Relaxation};
+use crate::effect::{Effect, Ended, ExchangeOutcome, Relaxation};
 use crate::report::Finished;
 use std::alloc::{AllocError, Global};
 
@@ -104,20 +104,20 @@ fn push_call<const P: u32>(
     Ok(())
 }
 
-fn wins_of(exchange: Option<Exchange>) -> u64
+fn wins_of(exchange: Option<ExchangeOutcome>) -> u64
     ensures { result ≡ win exchange }
 {
     match exchange {
-        Some(Exchange::Won) => 1,
+        Some(ExchangeOutcome::Won) => 1,
         _ => 0,
     }
 }
 
-fn losses_of(exchange: Option<Exchange>) -> u64
+fn losses_of(exchange: Option<ExchangeOutcome>) -> u64
     ensures { result ≡ loss exchange }
 {
     match exchange {
-        Some(Exchange::Lost) => 1,
+        Some(ExchangeOutcome::Lost) => 1,
         _ => 0,
     }
 }

@@ -2,4 +2,5 @@ pub mod DirectedArcs
 pub mod LineForm
 pub mod WordForm
 pub mod FailedFirst
-pub mod Peeking
+pub mod TurnedArcs
+pub mod TurnedWalks

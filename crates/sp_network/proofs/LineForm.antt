@@ -14,7 +14,7 @@ use Rattle.sp_text.proofs.FieldRuns.{no_remark, no_words}
 use Rattle.sp_dimacs.specs.Formats.{gr_up_to}
 use Rattle.sp_dimacs.specs.Graph.{SpellsUpTo}
 use Rattle.sp_dimacs.specs.declared.graphs.GrFile.{GrFile}
-use Rattle.sp_network.specs.Network.{is_packed}
+use Rattle.sp_packed.specs.Packed.{is_packed}
 
 -- The list begins with this byte; the lines do.
 record Begins (b : ℕ) (bytes : List ℕ) : Type 0 where

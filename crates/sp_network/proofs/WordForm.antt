@@ -13,9 +13,9 @@ use Rattle.sp_dimacs.specs.Formats.{gr_up_to}
 use Rattle.sp_dimacs.specs.declared.graphs.GrFile.{GrFile}
 use Rattle.sp_dimacs.specs.Graph.{arc_of, SpellsUpTo, ReadUpTo, IsNetworkUpTo, graph_of}
 use Rattle.sp_packed.specs.Words.{word}
-use Rattle.sp_packed.specs.Packed.{head_words, packed_words, packed_text, IsPackable, IsWithin}
+use Rattle.sp_packed.specs.Packed.{is_packed, head_words, packed_words, packed_text, IsPackable, IsWithin}
 use Rattle.sp_packed.proofs.TextLaws.{one_graph}
-use Rattle.sp_network.specs.Network.{is_packed, SpellsPacked, SpellsAs, SpellsNetwork, Answered}
+use Rattle.sp_network.specs.Network.{SpellsPacked, SpellsAs, SpellsNetwork, Answered}
 use Rattle.sp_network.proofs.LineForm.{lines_unpacked}
 
 pub text_packed : (g : Graph) → is_packed (packed_text g) ≡ true

@@ -1,3 +1,3 @@
 pub mod Network
-pub mod Peeked
 pub mod NetworkView
+pub mod Turned

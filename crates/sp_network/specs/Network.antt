@@ -1,5 +1,5 @@
 -- The network spelled by a text, of lines or packed.
-use Rattle.std.specs.Prelude.{◌≡◌, ◌==◌, ℕ, Bool, true, false, List, [], ◌∷◌, Option, Some, None, Result, Ok, Err, IfOk, IfErr}
+use Rattle.std.specs.Prelude.{◌≡◌, ℕ, Bool, true, false, List, [], Option, Some, Result, Ok, Err, IfOk, IfErr}
 use Rattle.sp_word.specs.Word.{max_pred}
 use Rattle.sp_device.specs.Failing.{Failing, Never}
 use Rattle.sp_paths.specs.declared.arc.Arc.{Arc}
@@ -9,13 +9,13 @@ use Rattle.sp_dimacs.specs.declared.formats.TheConstants.{MOST_ARCS, MOST_ARCS_B
 use Rattle.sp_dimacs.specs.declared.graphs.GrFile.{GrFile}
 use Rattle.sp_dimacs.specs.Graph.{SpellsUpTo, ReadUpTo, IsNetworkUpTo, graph_of}
 use Rattle.sp_packed.specs.declared.faults.PackedKind.TheVariants.{Read as WordRead}
-use Rattle.sp_packed.specs.Packed.{packed_text, IsPackable, IsWithin}
+use Rattle.sp_packed.specs.Packed.{is_packed, packed_text, IsPackable, IsWithin}
 use Rattle.sp_packed.specs.Faults.{PackedRead}
 use Rattle.sp_network.specs.declared.faults.NetworkFault.{NetworkFault}
 use Rattle.sp_network.specs.declared.faults.NetworkFault.TheVariants.{Text, Packed}
 use Rattle.sp_network.specs.declared.directions.Direction.{Direction}
 use Rattle.sp_network.specs.declared.directions.Direction.TheVariants.{AsGiven, Towards, BothWays}
-use Rattle.sp_turned.specs.Turned.{turned, with_turned}
+use Rattle.sp_network.specs.Turned.{turned, with_turned}
 
 -- ## Directions
 
@@ -36,16 +36,6 @@ most_of Towards = MOST_ARCS
 most_of BothWays = MOST_ARCS_BOTH_WAYS
 
 -- ## Texts
-
--- The first byte of the text is 0x89.
-abbrev pub is_packed : List ℕ → Bool
-is_packed [] = false
-is_packed (b ∷ text) = b == 0x89
-
--- The next byte is 0x89, if there is one.
-abbrev pub shows_packed : Option ℕ → Bool
-shows_packed None = false
-shows_packed (Some b) = b == 0x89
 
 -- The text is the packed text of the file's graph, which is within the limit of the layout and has at most `most` arcs.
 pub record SpellsPacked (P most : ℕ) (text : List ℕ) (file : GrFile) : Type 0 where

@@ -1,11 +1,12 @@
 //! The direction of a graph's arcs, relative to its file.
 ghost use Rattle.std.specs.Prelude.{◌≡◌, ℕ, IfOk};
 ghost use Rattle.sp_dimacs.specs.Graph.{IsNetwork, IsNetworkUpTo, graph_of};
-ghost use Rattle.sp_network.specs.Network.{directed, most_of};
+ghost use Rattle.sp_network.specs.Network.{directed, directed_arcs, most_of};
 
+use crate::arcs::{insert_turned, turn_by};
 use crate::network::Network;
-use sp_dimacs::{GrFile, MOST_ARCS, MOST_ARCS_BOTH_WAYS};
-use sp_turned::{insert_turned, turn_by};
+use sp_dimacs::{MOST_ARCS, MOST_ARCS_BOTH_WAYS};
+use sp_paths::Arc;
 use sp_word::Workers;
 use std::alloc::AllocError;
 use std::marker::Sync;
@@ -33,25 +34,21 @@ impl Direction {
         }
     }
 
-    // Returns the file with its arcs in this direction.
-    fn lead<R: Threads + Sync>(
+    // Leads arcs in this direction, in place.
+    pub(crate) fn lead<R: Threads + Sync>(
         self,
         rt: &R,
-        file: GrFile,
+        arcs: &mut Vec<Arc>,
         workers: Workers,
-    ) -> Result<GrFile, AllocError>
-        ensures directed { IfOk result
-            (λ made. graph_of made ≡ directed self (graph_of file)) }
-        ensures network { (P : ℕ) → IsNetworkUpTo P (most_of self) file
-            → IfOk result (IsNetwork P) }
+    ) -> Result<(), AllocError>
+        ensures { IfOk result (λ _. arcs.new.items ≡ directed_arcs self arcs.old.items) }
     {
-        let mut file = file;
         match self {
             Direction::AsGiven => {}
-            Direction::Towards => turn_by(rt, &mut file.arcs, workers),
-            Direction::BothWays => insert_turned(&mut file.arcs)?,
+            Direction::Towards => turn_by(rt, arcs, workers),
+            Direction::BothWays => insert_turned(arcs)?,
         }
-        Ok(file)
+        Ok(())
     }
 
     /// Returns the network with its arcs in this direction. Arcs are turned in place, with at most one thread for each worker,
@@ -70,10 +67,7 @@ impl Direction {
     {
         match self {
             Direction::AsGiven => Ok(network),
-            Direction::Towards | Direction::BothWays => {
-                let file = self.lead(rt, network.into_file(), workers)?;
-                Ok(Network::of_lines(file))
-            }
+            Direction::Towards | Direction::BothWays => network.lead(rt, self, workers),
         }
     }
 }

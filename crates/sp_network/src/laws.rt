@@ -5,10 +5,10 @@ ghost use Rattle.sp_word.specs.Word.{max_pred};
 ghost use Rattle.sp_paths.specs.Paths.{Graph};
 ghost use Rattle.sp_dimacs.specs.declared.graphs.GrFile.{GrFile};
 ghost use Rattle.sp_dimacs.specs.Graph.{SpellsUpTo, graph_of};
-ghost use Rattle.sp_packed.specs.Packed.{packed_text, IsPackable, IsWithin};
-ghost use Rattle.sp_turned.specs.Turned.{IsTurned, IsBothWays};
+ghost use Rattle.sp_packed.specs.Packed.{is_packed, packed_text, IsPackable, IsWithin};
+ghost use Rattle.sp_network.specs.Turned.{IsTurned, IsBothWays};
 ghost use Rattle.sp_network.specs.declared.directions.Direction.TheVariants.{AsGiven, Towards, BothWays};
-ghost use Rattle.sp_network.specs.Network.{directed, is_packed, SpellsNetwork};
+ghost use Rattle.sp_network.specs.Network.{directed, SpellsNetwork};
 
 /// States that a text of lines that spells a graph isn't packed, and that it spells this network.
 pub fn lines_spell_their_network()
@@ -33,7 +33,7 @@ pub fn a_text_spells_one_network()
         → (f.n ≡ g.n) × IsPermutation f.arcs.items g.arcs.items }
 {}
 
-/// States that the graph of a direction is the graph itself, the one made by `turned` of `sp_turned`, or the one made by
+/// States that the graph of a direction is the graph itself, the one made by `turned`, or the one made by
 /// `both_ways`, up to the order of arcs.
 pub fn directions_are_those_of_graphs()
     ensures given { (g : Graph) → directed AsGiven g ≡ g }

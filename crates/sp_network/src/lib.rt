@@ -1,13 +1,18 @@
-//! The network spelled by a graph's file, which is a text of lines or packed.
+//! The network spelled by a graph's file, which is a text of lines or packed; and the direction of its arcs. Graphs and lists of
+//! arcs are turned round for distances towards a vertex, and lead both ways for streets that are given once.
 #![tactic(auto)]
 
+mod arcs;
 mod directions;
 mod faults;
 mod laws;
 mod network;
 mod networks;
-mod peeked;
+mod turned_laws;
+mod turning;
+mod ways;
 
+pub use arcs::{insert_turned, turn, turn_by, turned_arc};
 pub use directions::Direction;
 pub use faults::NetworkFault;
 pub use laws::{
@@ -16,8 +21,12 @@ pub use laws::{
 };
 pub use network::Network;
 pub use networks::read_network;
-pub use peeked::Peeked;
 pub use sp_dimacs::GrFile;
+pub use turned_laws::{both_ways_turned, both_ways_walks, turned_twice, turned_walks};
+pub use turning::{turned, turned_alone};
+pub use ways::{both_ways, both_ways_alone};
 
 #[cfg(test)]
 mod tests;
+#[cfg(test)]
+mod turned_tests;

@@ -4,8 +4,11 @@ ghost use Rattle.std.specs.List.Sorted.{IsPermutation};
 ghost use Rattle.sp_paths.specs.Paths.{IsArc};
 ghost use Rattle.sp_graph.specs.Order.{IsInOrder};
 ghost use Rattle.sp_graph.specs.RowEnds.{AreRowEnds};
+ghost use Rattle.sp_dimacs.specs.Graph.{graph_of};
+ghost use Rattle.sp_network.specs.Network.{directed};
 ghost use Rattle.sp_network.specs.NetworkView.{spelled_by};
 
+use crate::directions::Direction;
 use sp_dimacs::GrFile;
 use sp_graph::{Graph, RowEnds};
 use sp_packed::PackedFile;
@@ -76,6 +79,21 @@ impl Network {
     {
         let Network { file, rows: _ } = self;
         file
+    }
+
+    // Returns the network with its arcs led in this direction, in place. Nothing is known of their rows.
+    pub(crate) fn lead<R: Threads + Sync>(
+        self,
+        rt: &R,
+        direction: Direction,
+        workers: Workers,
+    ) -> Result<Network, AllocError>
+        ensures { IfOk result (λ made. graph_of made ≡ directed direction (graph_of self)) }
+    {
+        let mut network = self;
+        network.rows = None;
+        direction.lead(rt, &mut network.file.arcs, workers)?;
+        Ok(network)
     }
 
     /// Builds the graph of the network, as `Graph::from_arcs_by` does. If its rows are known, it copies nothing, looks at no arc

@@ -4,33 +4,19 @@ ghost use Rattle.sp_word.specs.Word.{is_layout};
 ghost use Rattle.sp_device.specs.Failing.{Never};
 ghost use Rattle.sp_text.specs.Whole.{NeverRead};
 ghost use Rattle.sp_dimacs.specs.Graph.{SpellsUpTo, ReadUpTo, IsNetworkUpTo};
-ghost use Rattle.sp_network.specs.Network.{most_of, shows_packed, SpellsNetwork, NetworkRead, IsOfDevice, Answered};
+ghost use Rattle.sp_network.specs.Network.{most_of, SpellsNetwork, NetworkRead, IsOfDevice, Answered};
 
 use crate::directions::Direction;
 use crate::faults::NetworkFault;
 use crate::network::Network;
-use crate::peeked::Peeked;
-use sp_device::Read;
+use sp_device::{Peeked, Read};
 use sp_dimacs::{DimacsError, GrFile, Kind, read_gr_both_ways, read_gr_by};
-use sp_packed::read_packed_file;
-use sp_word::{Crew, Workers};
+use sp_packed::{is_packed, read_packed_file};
+use sp_word::{ThreadsAndSleep, Workers};
 use std::alloc::Global;
 
-// The first byte of a packed text. No text of lines that spells a graph begins with it.
-const MARK: u8 = 0x89;
-
-// Returns whether a text that begins with this byte is packed.
-fn is_marked(next: Option<u8>) -> bool
-    ensures { result ≡ shows_packed next }
-{
-    match next {
-        Some(first) => first == MARK,
-        None => false,
-    }
-}
-
 // Reads the rest of a device's bytes as lines. They may announce as many arcs as this direction allows.
-fn read_directed<const P: u32, H: Crew, R: Read>(
+fn read_directed<const P: u32, H: ThreadsAndSleep, R: Read>(
     rt: &H,
     alloc: Global,
     reader: &mut R,
@@ -55,7 +41,7 @@ fn read_directed<const P: u32, H: Crew, R: Read>(
 }
 
 // Reads the rest of a device's bytes as a text of lines.
-fn read_lines<const P: u32, H: Crew, R: Read>(
+fn read_lines<const P: u32, H: ThreadsAndSleep, R: Read>(
     rt: &H,
     alloc: Global,
     reader: &mut R,
@@ -93,7 +79,7 @@ fn read_words<const P: u32, R: Read>(
 ///
 /// A text of lines is read with this many workers, including this thread. Only this thread reads the device. An empty text
 /// lacks a problem line. If the device fails before the first byte, the fault is Read at line 1.
-pub fn read_network<const P: u32, H: Crew, D: Read>(
+pub fn read_network<const P: u32, H: ThreadsAndSleep, D: Read>(
     rt: &H,
     alloc: Global,
     reader: &mut Peeked<D>,
@@ -121,7 +107,7 @@ pub fn read_network<const P: u32, H: Crew, D: Read>(
             }));
         }
     };
-    if is_marked(next) {
+    if is_packed(next) {
         read_words::<P, Peeked<D>>(alloc, reader, direction)
     } else {
         read_lines::<P, H, Peeked<D>>(rt, alloc, reader, workers, direction)

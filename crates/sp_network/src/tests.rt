@@ -1,8 +1,8 @@
 //! The files of one graph, in both forms.
 ghost use Rattle.std.specs.Prelude.{◌≤◌, ◌^◌, length};
 
-use crate::{Direction, GrFile, Network, NetworkFault, Peeked, read_network};
-use sp_device::UpTo;
+use crate::{Direction, GrFile, Network, NetworkFault, read_network};
+use sp_device::{Peeked, UpTo};
 use sp_graph::Graph;
 use sp_packed::{PackedFault, PackedField, PackedKind};
 use sp_paths::Arc;

@@ -11,7 +11,7 @@ use Rattle.sp_word.specs.Word.{Word, Unreached, is_layout, is_word, word_of}
 use Rattle.sp_word.specs.History.{run}
 use Rattle.sp_offer.specs.Order.{lawful}
 use Rattle.sp_offer.specs.Histories.{blank}
-use Rattle.sp_offer.specs.Interleaving.{Taken, AreWithin}
+use Rattle.sp_offer.specs.Interleaving.{TakenStep, AreWithin}
 use Rattle.sp_offer.specs.Trail.{Found, turns_of, AreTaken, EachTaken}
 use Rattle.sp_offer.specs.Story.{Story, Knowledge, times, copied_word}
 use Rattle.sp_offer.specs.Sight.{Sight, story}
@@ -43,7 +43,7 @@ module _ {S : Type 0} (P : ℕ) (layout : is_layout P ≡ true) (allows : ℕ �
   left_word i b inside there = let s : State S Sight = end.0 in
       subst (λ (k : ℕ). is_word P k ≡ true) (ap (λ (l : List ℕ). get_or l i 0) end.2 ∙ elem_is ws i b there) (is_there P layout (lawful P allows) (lawful P allows) (lawful_pairs P allows) n (λ u w h. h) s end.1.0 i inside)
 
-  all_taken : (steps : List Taken) (vs : List Sight) → ((j : ℕ) (u : Sight) → get_elem? vs j ≡ some u → AreTaken steps u.trail) → EachTaken steps (map (λ (u : Sight). u.trail) vs)
+  all_taken : (steps : List TakenStep) (vs : List Sight) → ((j : ℕ) (u : Sight) → get_elem? vs j ≡ some u → AreTaken steps u.trail) → EachTaken steps (map (λ (u : Sight). u.trail) vs)
   all_taken steps [] h = tt
   all_taken steps (u ∷ vs) h = (h 0 u refl, all_taken steps vs (λ j. h (suc j)))
 

@@ -11,7 +11,7 @@ use lib.ListN.{get_elem?}
 use Rattle.sp_word.specs.Word.{Word}
 use Rattle.sp_word.specs.History.{Event, run}
 use Rattle.sp_offer.specs.Histories.{blank}
-use Rattle.sp_offer.specs.Interleaving.{Asked, Taken, Doing, Rests, doing, doing_after, ended, calls_of, MayFollow, IsInterleaving, AreWithin}
+use Rattle.sp_offer.specs.Interleaving.{AskedStep, TakenStep, Doing, Rests, doing, doing_after, ended, calls_of, MayFollow, IsInterleaving, AreWithin}
 use Rattle.sp_offer.specs.Trail.{Found, turns_of, IsTaken, AreTaken}
 use Rattle.sp_offer.specs.Story.{times, once_below}
 use Rattle.sp_offer.specs.Sight.{Sight}
@@ -57,12 +57,12 @@ there_is (x ∷ xs) (suc i) v e = let h = there_is xs i v e in omega (arith, h)
 -- ## Steps
 
 -- more callers
-pub within_more : (n callers more : ℕ) (steps : List Taken) → callers ≤ more → AreWithin n callers steps → AreWithin n more steps
+pub within_more : (n callers more : ℕ) (steps : List TakenStep) → callers ≤ more → AreWithin n callers steps → AreWithin n more steps
 within_more n callers more [] le h = tt
 within_more n callers more (s ∷ before) le h = let one = h.2 in (h.0, h.1, omega (arith, one), within_more n callers more before le h.3)
 
 -- the steps go on, or stay as they are: of all seats one alone may do something else, and the history has the calls that ended
-pub record GoesOn (n callers : ℕ) (steps next : List Taken) (log : List Event) (id : ℕ) (at : Doing) (old trail : List Found) : Type 0 where
+pub record GoesOn (n callers : ℕ) (steps next : List TakenStep) (log : List Event) (id : ℕ) (at : Doing) (old trail : List Found) : Type 0 where
   pub interleaved : IsInterleaving next
   pub within : AreWithin n callers next
   pub calls : log ≡ calls_of next
@@ -75,7 +75,7 @@ pub record GoesOn (n callers : ℕ) (steps next : List Taken) (log : List Event)
 once_more : (p n : ℕ) → once_below p (n + 1) ≡ once_below p n + cond (n == p) 1 0
 once_more p n = grind (arith, nat_tests)
 
-longer : (s : Taken) (steps : List Taken) → length (s ∷ steps) ≡ length steps + 1
+longer : (s : TakenStep) (steps : List TakenStep) → length (s ∷ steps) ≡ length steps + 1
 longer s steps = omega arith
 
 -- ## Trails
@@ -86,27 +86,27 @@ turns_append p fs gs = ap (times p) (map-append (λ (f : Found). f.turn) fs gs) 
 turns_more : (p : ℕ) (fs : List Found) (f : Found) → times p (turns_of (fs ++ f ∷ [])) ≡ times p (turns_of fs) + cond (f.turn == p) 1 0
 turns_more p fs f = ap (times p) (map-append (λ (g : Found). g.turn) fs (f ∷ [])) ∙ sum_by_push (λ (q : ℕ). cond (q == p) 1 0) (turns_of fs) f.turn
 
-pub taken_append : (steps : List Taken) (fs gs : List Found) → AreTaken steps fs → AreTaken steps gs → AreTaken steps (fs ++ gs)
+pub taken_append : (steps : List TakenStep) (fs gs : List Found) → AreTaken steps fs → AreTaken steps gs → AreTaken steps (fs ++ gs)
 taken_append steps [] gs h k = k
 taken_append steps (f ∷ fs) gs h k = (h.0, taken_append steps fs gs h.1 k)
 
-taken_more : (s : Taken) (steps : List Taken) (fs : List Found) → AreTaken steps fs → AreTaken (s ∷ steps) fs
+taken_more : (s : TakenStep) (steps : List TakenStep) (fs : List Found) → AreTaken steps fs → AreTaken (s ∷ steps) fs
 taken_more s steps [] h = tt
 taken_more s steps (f ∷ fs) h = (inr h.0, taken_more s steps fs h.1)
 
-pub taken_older : (steps next : List Taken) → ((f : Found) → IsTaken steps f → IsTaken next f) → (fs : List Found) → AreTaken steps fs → AreTaken next fs
+pub taken_older : (steps next : List TakenStep) → ((f : Found) → IsTaken steps f → IsTaken next f) → (fs : List Found) → AreTaken steps fs → AreTaken next fs
 taken_older steps next older [] h = tt
 taken_older steps next older (f ∷ fs) h = (older f h.0, taken_older steps next older fs h.1)
 
-pub no_step : (n callers : ℕ) (steps : List Taken) (log : List Event) (id : ℕ) (at : Doing) (trail : List Found) → AreTaken steps trail → IsInterleaving steps → AreWithin n callers steps → log ≡ calls_of steps → doing steps id ≡ at → GoesOn n callers steps steps log id at trail trail
+pub no_step : (n callers : ℕ) (steps : List TakenStep) (log : List Event) (id : ℕ) (at : Doing) (trail : List Found) → AreTaken steps trail → IsInterleaving steps → AreWithin n callers steps → log ≡ calls_of steps → doing steps id ≡ at → GoesOn n callers steps steps log id at trail trail
 no_step n callers steps log id at trail taken is within calls here = record { interleaved = is; within = within; calls = calls; mine = here; others = λ j other. refl; told = λ p. refl; taken = taken; older = λ f h. h }
 
-pub one_step : (n callers : ℕ) (steps : List Taken) (log log' : List Event) (id vertex : ℕ) (asked : Asked) (found : Word) (at at' : Doing) (trail : List Found) → AreTaken steps trail → 0 < vertex → vertex ≤ n → id < callers → IsInterleaving steps → AreWithin n callers steps → log ≡ calls_of steps → doing steps id ≡ at
+pub one_step : (n callers : ℕ) (steps : List TakenStep) (log log' : List Event) (id vertex : ℕ) (asked : AskedStep) (found : Word) (at at' : Doing) (trail : List Found) → AreTaken steps trail → 0 < vertex → vertex ≤ n → id < callers → IsInterleaving steps → AreWithin n callers steps → log ≡ calls_of steps → doing steps id ≡ at
     → run blank log vertex ≡ found → MayFollow (record { by = id; vertex = vertex; asked = asked; found = found }) asked at
     → log' ≡ log ++ ended (record { by = id; vertex = vertex; asked = asked; found = found }) asked at → doing_after (record { by = id; vertex = vertex; asked = asked; found = found }) asked at ≡ at'
     → GoesOn n callers steps (record { by = id; vertex = vertex; asked = asked; found = found } ∷ steps) log' id at' trail (trail ++ record { front = log; vertex = vertex; word = found; turn = length steps } ∷ [])
 one_step n callers steps log log' id vertex asked found at at' trail taken low few one is within calls here finds may more leads =
-    let s : Taken = record { by = id; vertex = vertex; asked = asked; found = found } in
+    let s : TakenStep = record { by = id; vertex = vertex; asked = asked; found = found } in
     let f : Found = record { front = log; vertex = vertex; word = found; turn = length steps } in record {
       interleaved = (ap (λ (l : List Event). run blank l vertex) (sym calls) ∙ finds, subst (MayFollow s asked) (sym here) may, is);
       within = (low, few, one, within);

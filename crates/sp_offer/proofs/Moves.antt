@@ -13,8 +13,8 @@ use Rattle.sp_word.specs.History.{Event, Call, Offer, Read, IsAnswered, left_by,
 use Rattle.sp_word.specs.Reply.{reply_to}
 use Rattle.sp_offer.specs.Order.{lawful, IsKnownWord}
 use Rattle.sp_offer.specs.Histories.{blank, event, found_by, IsLawful}
-use Rattle.sp_word.specs.Offering.{Stage, Holding, Over, offer_step}
-use Rattle.sp_offer.specs.Interleaving.{Asked, OfOffer, OfRead, OfMin, Taken, Doing, Rests, Offering, stage_at, doing_at, doing_after, doing, call_over, ended, IsAt, MayFollow}
+use Rattle.sp_word.specs.Offering.{OfferStage, Holding, Over, offer_step}
+use Rattle.sp_offer.specs.Interleaving.{AskedStep, OfOffer, OfRead, OfMin, TakenStep, Doing, Rests, Offering, stage_at, doing_at, doing_after, doing, call_over, ended, IsAt, MayFollow}
 use Rattle.sp_offer.specs.Trail.{Found, last_front}
 use Rattle.sp_offer.specs.Story.{Story, Looks, Calls}
 use Rattle.sp_offer.specs.Sight.{Sight, newcomer, story, listener, merged_sight}
@@ -81,7 +81,7 @@ module _ {S : Type 0} (P : ℕ) (layout : is_layout P ≡ true) (law told : ℕ 
   does : (s : State S Sight) (r : rule P law n s) (id : ℕ) (me : Me S Sight) → get_elem? s.views id ≡ some me.0 → doing r.steps id ≡ me.0.at
   does s r id me at = r.stands id ∙ doing_there s.views id me.0 at
 
-  look_goes : (s : State S Sight) (r : rule P law n s) (i id : ℕ) (me : Me S Sight) (ts : List Found) (d : Doing) (next : List Taken) → i < n → get_elem? s.views id ≡ some me.0 → GoesOn n (length s.views) r.steps next r.log id d me.0.trail ts → (then : Me S Sight → Type 0)
+  look_goes : (s : State S Sight) (r : rule P law n s) (i id : ℕ) (me : Me S Sight) (ts : List Found) (d : Doing) (next : List TakenStep) → i < n → get_elem? s.views id ≡ some me.0 → GoesOn n (length s.views) r.steps next r.log id d me.0.trail ts → (then : Me S Sight → Type 0)
       → ((w : Sight) → Hears me.0 w → (w.trail ≡ ts) × (w.seen ≡ r.log) × (w.at ≡ d) → Looks told (i + 1) (word_of P (get_or s.words i 0)) (story me.0) (story w) → then (w, me.1)) → Goes s i id me then (get_or s.words i 0)
   look_goes s r i id me ts d next inside at goes then tell = let w : Sight = looking P law n r.log ts d me.0 in let x : Word = word_of P (get_or s.words i 0) in (
     w,
@@ -91,7 +91,7 @@ module _ {S : Type 0} (P : ℕ) (layout : is_layout P ≡ true) (law told : ℕ 
     tell w (look_hears P law n s.words s.views r id me.0 ts d at) (refl, refl, refl) (looks_into law told into (i + 1) x (story me.0) (story w) (look_tells P law n s.words s.views r (i + 1) id me.0 ts d x at (spells s r i inside))),
   )
 
-  call_goes : (s : State S Sight) (r : rule P law n s) (i id m by : ℕ) (me : Me S Sight) (ts : List Found) (c : Call) (next : List Taken) → i < n → get_elem? s.views id ≡ some me.0 → GoesOn n (length s.views) r.steps next (r.log ++ event by (i + 1) c ∷ []) id Rests me.0.trail ts
+  call_goes : (s : State S Sight) (r : rule P law n s) (i id m by : ℕ) (me : Me S Sight) (ts : List Found) (c : Call) (next : List TakenStep) → i < n → get_elem? s.views id ≡ some me.0 → GoesOn n (length s.views) r.steps next (r.log ++ event by (i + 1) c ∷ []) id Rests me.0.trail ts
       → IsAnswered (word_of P (get_or s.words i 0)) c → IsLawful law (i + 1) c → m ≡ bits_of P (left_by c (word_of P (get_or s.words i 0)))
       → (then : Me S Sight → Type 0) → ((w : Sight) → Hears me.0 w → (w.trail ≡ ts) × (w.seen ≡ r.log ++ event by (i + 1) c ∷ []) × (w.at ≡ Rests) → Calls told (event by (i + 1) c) (story me.0) (story w) → then (w, me.1)) → Goes s i id me then m
   call_goes s r i id m by me ts c next inside at goes answer fits new then tell =
@@ -122,7 +122,7 @@ module _ {S : Type 0} (P : ℕ) (layout : is_layout P ≡ true) (law told : ℕ 
   }
 
   -- the step that is added to those of all callers
-  abbrev taken : State S Sight → (i id : ℕ) → Asked → Taken
+  abbrev taken : State S Sight → (i id : ℕ) → AskedStep → TakenStep
   taken s i id asked = record { by = id; vertex = i + 1; asked = asked; found = word_of P (get_or s.words i 0) }
 
   -- a step that only looks, of an offer that goes on
@@ -133,12 +133,12 @@ module _ {S : Type 0} (P : ℕ) (layout : is_layout P ≡ true) (law told : ℕ 
   step_looks s r i id me word inside at may holds then tell =
       let x : Word = word_of P (get_or s.words i 0) in
       let goes = one_step n (length s.views) r.steps r.log r.log id (i + 1) (OfOffer word) x me.0.at (Offering (i + 1) word x) me.0.trail (r.taken id me.0 at) (omega arith) (omega arith) (there_is s.views id me.0 at) r.interleaved r.within r.calls (does s r id me at) (sym (spells s r i inside)) may
-      (sym (append-nil r.log) ∙ ap (λ (g : Stage). r.log ++ call_over (taken s i id (OfOffer word)) word g) (sym holds)) (ap (doing_at (i + 1) word) holds) in
+      (sym (append-nil r.log) ∙ ap (λ (g : OfferStage). r.log ++ call_over (taken s i id (OfOffer word)) word g) (sym holds)) (ap (doing_at (i + 1) word) holds) in
       look_goes s r i id me (trail_with s r i me) (Offering (i + 1) word x) (taken s i id (OfOffer word) ∷ r.steps) inside at goes then
       (λ w h t l. tell w h (finds_there s r i id me w inside at t.0 ([], append-nil r.log ∙ sym t.1), t.2) l)
 
   -- a step at which its call takes effect
-  step_calls : (s : State S Sight) (r : rule P law n s) (i id m by : ℕ) (me : Me S Sight) (c : Call) (asked : Asked) → by ≡ id → i < n → get_elem? s.views id ≡ some me.0
+  step_calls : (s : State S Sight) (r : rule P law n s) (i id m by : ℕ) (me : Me S Sight) (c : Call) (asked : AskedStep) → by ≡ id → i < n → get_elem? s.views id ≡ some me.0
       → MayFollow (taken s i id asked) asked me.0.at → ended (taken s i id asked) asked me.0.at ≡ event id (i + 1) c ∷ [] → doing_after (taken s i id asked) asked me.0.at ≡ Rests
       → IsAnswered (word_of P (get_or s.words i 0)) c → IsLawful law (i + 1) c → m ≡ bits_of P (left_by c (word_of P (get_or s.words i 0)))
       → (then : Me S Sight → Type 0)
@@ -155,7 +155,7 @@ module _ {S : Type 0} (P : ℕ) (layout : is_layout P ≡ true) (law told : ℕ 
       ) l)
 
   -- an offer, after which the word is the lesser of the word found and the word offered
-  offer_goes : (s : State S Sight) (r : rule P law n s) (i id m by : ℕ) (me : Me S Sight) (word : Word) (asked : Asked) → by ≡ id → i < n → get_elem? s.views id ≡ some me.0
+  offer_goes : (s : State S Sight) (r : rule P law n s) (i id m by : ℕ) (me : Me S Sight) (word : Word) (asked : AskedStep) → by ≡ id → i < n → get_elem? s.views id ≡ some me.0
       → MayFollow (taken s i id asked) asked me.0.at
       → ended (taken s i id asked) asked me.0.at ≡ answer_event id (i + 1) word (word_of P (get_or s.words i 0)) ∷ [] → doing_after (taken s i id asked) asked me.0.at ≡ Rests
       → law (i + 1) word → m ≡ min (get_or s.words i 0) (bits_of P word)

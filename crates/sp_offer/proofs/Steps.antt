@@ -14,7 +14,7 @@ use Rattle.sp_word.specs.History.{Table, Event, IsAnswered, left_by, run, IsLega
 use Rattle.sp_offer.specs.Order.{IsKnownWord}
 use Rattle.sp_offer.specs.Histories.{blank, found_by, IsLawful}
 use Rattle.sp_offer.specs.Story.{times, once_below, IsOnce, Looks, Calls}
-use Rattle.sp_offer.specs.Interleaving.{Taken, Doing, Rests, doing, AreWithin}
+use Rattle.sp_offer.specs.Interleaving.{TakenStep, Doing, Rests, doing, AreWithin}
 use Rattle.sp_offer.specs.Trail.{Found, turns_of, IsTaken, AreTaken}
 use Rattle.sp_offer.specs.Sight.{Sight, newcomer, story, listener, merged_sight}
 use Rattle.sp_offer.specs.Rule.{OneHistory, Hears}
@@ -46,7 +46,7 @@ begin_more : (log : List Event) (e : Event) (vs : List Sight) → AllBegin log v
 begin_more log e vs all j v at = let b = all j v at in (prefix_append v.seen log (e ∷ []) b.0, prefix_append v.heard log (e ∷ []) b.1)
 
 -- each trail tells steps of all callers
-taken_set : (steps next : List Taken) (vs : List Sight) (id : ℕ) (w : Sight) → ((j : ℕ) (v : Sight) → get_elem? vs j ≡ some v → AreTaken steps v.trail) → ((f : Found) → IsTaken steps f → IsTaken next f) → AreTaken next w.trail
+taken_set : (steps next : List TakenStep) (vs : List Sight) (id : ℕ) (w : Sight) → ((j : ℕ) (v : Sight) → get_elem? vs j ≡ some v → AreTaken steps v.trail) → ((f : Found) → IsTaken steps f → IsTaken next f) → AreTaken next w.trail
     → (j : ℕ) (v : Sight) → get_elem? (set vs id w) j ≡ some v → AreTaken next v.trail
 taken_set steps next vs id w all older mine j v e = ⊎_elim (λ (t : (j ≡ id) × (w ≡ v)). subst (λ (x : Sight). AreTaken next x.trail) t.1 mine)
     (λ (t : (j ≢ id) × (get_elem? vs j ≡ some v)). taken_older steps next older v.trail (all j v t.1)) (at_set vs id j w v e)
@@ -79,7 +79,7 @@ module _ (P : ℕ) (law : ℕ → Word → Type 0) (n : ℕ) where
 
   -- ## Looks
 
-  pub look_keeps : (ws : List ℕ) (vs : List Sight) (r : Rule ws vs) (i id : ℕ) (v : Sight) (ts : List Found) (d : Doing) (next : List Taken) → get_elem? vs id ≡ some v → GoesOn n (length vs) r.steps next r.log id d v.trail ts
+  pub look_keeps : (ws : List ℕ) (vs : List Sight) (r : Rule ws vs) (i id : ℕ) (v : Sight) (ts : List Found) (d : Doing) (next : List TakenStep) → get_elem? vs id ≡ some v → GoesOn n (length vs) r.steps next r.log id d v.trail ts
       → Rule (set ws i (get_or ws i 0)) (set vs id (looking r.log ts d v))
   look_keeps ws vs r i id v ts d next at goes = subst (λ (zs : List ℕ). Rule zs (set vs id (looking r.log ts d v))) (sym (set-get_or ws i 0)) record {
     log = r.log;
@@ -126,7 +126,7 @@ module _ (P : ℕ) (law : ℕ → Word → Type 0) (n : ℕ) where
       (λ there. let other : j + 1 ≢ e.vertex = λ h. there (omega arith) in subst F (sym (ne_eqb (j + 1) e.vertex other))
       (get_or-set_other ws i j m 0 there ∙ ends j below)))
 
-  pub call_keeps : (ws : List ℕ) (vs : List Sight) (r : Rule ws vs) (i id m : ℕ) (v : Sight) (ts : List Found) (e : Event) (next : List Taken) → i < n → get_elem? vs id ≡ some v → GoesOn n (length vs) r.steps next (r.log ++ e ∷ []) id Rests v.trail ts
+  pub call_keeps : (ws : List ℕ) (vs : List Sight) (r : Rule ws vs) (i id m : ℕ) (v : Sight) (ts : List Found) (e : Event) (next : List TakenStep) → i < n → get_elem? vs id ≡ some v → GoesOn n (length vs) r.steps next (r.log ++ e ∷ []) id Rests v.trail ts
       → e.vertex ≡ i + 1 → IsAnswered (run blank r.log e.vertex) e.call → IsLawful law e.vertex e.call → m ≡ bits_of P (left_by e.call (run blank r.log e.vertex))
       → Rule (set ws i m) (set vs id (calling r.log e ts v))
   call_keeps ws vs r i id m v ts e next inside at goes vertex answer fits new = let wide = r.wide in let w : Sight = calling r.log e ts v in record {

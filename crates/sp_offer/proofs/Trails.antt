@@ -7,7 +7,7 @@ use Rattle.sp_word.specs.declared.reply.Reply.TheVariants.{Shorter, SmallerPred,
 use Rattle.sp_word.specs.Word.{Word, Unreached, Pair, Fits, is_layout, is_word, is_below, is_same, bits_of, word_of}
 use Rattle.sp_word.specs.History.{Event}
 use Rattle.sp_word.specs.Reply.{reply_to}
-use Rattle.sp_word.specs.Offering.{Stage, Before, Holding, Over, offer_step, offer_steps}
+use Rattle.sp_word.specs.Offering.{OfferStage, Before, Holding, Over, offer_step, offer_steps}
 use Rattle.sp_offer.specs.Histories.{is_smaller}
 use Rattle.sp_offer.specs.Trail.{Found, words_of, AreOf, Stand}
 use Rattle.sp_offer.specs.Story.{Knowledge}
@@ -46,7 +46,7 @@ is_kept found word more = kept_reply (reply_to found word) (smaller_is_below fou
 -- ## Steps
 
 -- one more step
-steps_more : (w : Word) (s : Stage) (xs : List Word) (x : Word) → offer_steps w s (xs ++ x ∷ []) ≡ offer_step w (offer_steps w s xs) x
+steps_more : (w : Word) (s : OfferStage) (xs : List Word) (x : Word) → offer_steps w s (xs ++ x ∷ []) ≡ offer_step w (offer_steps w s xs) x
 steps_more w s [] x = refl
 steps_more w s (y ∷ ys) x = steps_more w (offer_step w s y) ys x
 
@@ -116,7 +116,7 @@ module _ (P : ℕ) (layout : is_layout P ≡ true) (word : Word) (bits : ℕ) (o
   load_holds held is less = let x : Word = word_of P held in cond-true (is_below word x) (Holding x) (Over x Kept) (is_lower held is less)
 
   module _ (held found : ℕ) where
-    abbrev goes_on : Stage
+    abbrev goes_on : OfferStage
     goes_on = if is_below word (word_of P found) then Holding (word_of P found) else Over (word_of P found) Kept
 
     pub exchange_won : found ≡ held → offer_step word (Holding (word_of P held)) (word_of P found) ≡ Over (word_of P found) (reply_to (word_of P found) word)
@@ -160,9 +160,9 @@ module _ (P : ℕ) (layout : is_layout P ≡ true) (word : Word) (bits : ℕ) (o
       counted = omega (arith, length-append h.grows.found one, h.count)
 
       stepped : offer_steps word Before (words_of (h.grows.found ++ one)) ≡ offer_step word (Holding y) x
-      stepped = ap (offer_steps word Before) (words_append h.grows.found one) ∙ (steps_more word Before (words_of h.grows.found) x ∙ ap (λ (s : Stage). offer_step word s x) (h.holds less))
+      stepped = ap (offer_steps word Before) (words_append h.grows.found one) ∙ (steps_more word Before (words_of h.grows.found) x ∙ ap (λ (s : OfferStage). offer_step word s x) (h.holds less))
 
-      abbrev other : Stage
+      abbrev other : OfferStage
       other = if is_below word x then Holding x else Over x Kept
 
       -- an exchange that is lost

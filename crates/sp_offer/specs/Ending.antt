@@ -6,7 +6,7 @@ use lib.ListN.{get_elem?}
 use Rattle.sp_word.specs.Word.{Word}
 use Rattle.sp_word.specs.History.{Event, run, IsLegal}
 use Rattle.sp_offer.specs.Histories.{blank, AreLawful}
-use Rattle.sp_offer.specs.Interleaving.{Taken, calls_of, IsInterleaving, AreWithin}
+use Rattle.sp_offer.specs.Interleaving.{TakenStep, calls_of, IsInterleaving, AreWithin}
 use Rattle.sp_offer.specs.Trail.{Found, turns_of, EachTaken}
 use Rattle.sp_offer.specs.Story.{Knowledge, times, once_below, copied_word}
 
@@ -23,7 +23,7 @@ pub record IsEnd (law : ℕ → Word → Type 0) (caller : Knowledge) (words : L
   pub mine : get_elem? owns caller.number ≡ some caller.story.own
   pub owned : (p : ℕ) → sum_by (times p) owns ≡ once_below p (length history)
   -- The steps of all callers.
-  pub steps : List Taken
+  pub steps : List TakenStep
   pub interleaved : IsInterleaving steps
   pub calls : history ≡ calls_of steps
   pub within : AreWithin (length words) (length owns) steps

@@ -3,7 +3,7 @@ use Rattle.std.specs.Prelude.{◌≡◌, ℕ}
 use Rattle.atomic_table.specs.Seated.{TableId}
 use Rattle.atomic_table.specs.declared.shared.Seat.{Seat}
 use Rattle.sp_word.specs.Word.{Word, word_of}
-use Rattle.sp_offer.specs.declared.words.Words.{Words}
+use Rattle.sp_offer.specs.declared.atomic_words.Words.{Words}
 use Rattle.sp_offer.specs.Order.{lawful}
 use Rattle.sp_offer.specs.Sight.{Sight}
 use Rattle.sp_offer.specs.Rule.{TableView, SeatOffers, answer_event}

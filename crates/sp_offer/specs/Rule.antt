@@ -10,7 +10,7 @@ use Rattle.sp_word.specs.Word.{Word, bits_of, is_word, word_of}
 use Rattle.sp_word.specs.History.{Event, Offer, Read, run, IsLegal}
 use Rattle.sp_word.specs.Reply.{reply_to}
 use Rattle.sp_offer.specs.Histories.{blank, event, AreLawful}
-use Rattle.sp_offer.specs.Interleaving.{Taken, Doing, Rests, Offering, doing, calls_of, IsInterleaving, AreWithin}
+use Rattle.sp_offer.specs.Interleaving.{TakenStep, Doing, Rests, Offering, doing, calls_of, IsInterleaving, AreWithin}
 use Rattle.sp_offer.specs.Trail.{Found, turns_of, AreTaken, Ends}
 use Rattle.sp_offer.specs.Story.{Story, Knowledge, IsStory, times, once_below, Calls, Looks, Follows}
 use Rattle.sp_offer.specs.Sight.{Sight, newcomer, story}
@@ -32,7 +32,7 @@ pub record OneHistory (P : ℕ) (law : ℕ → Word → Type 0) (vertices : ℕ)
   pub lawful : AreLawful law log
   pub begins : (j : ℕ) (v : Sight) → get_elem? views j ≡ some v → IsPrefix v.seen log × IsPrefix v.heard log
   pub owned : (p : ℕ) → sum_by (λ (v : Sight). times p v.own) views ≡ once_below p (length log)
-  pub steps : List Taken
+  pub steps : List TakenStep
   pub interleaved : IsInterleaving steps
   pub within : AreWithin vertices (length views) steps
   pub calls : log ≡ calls_of steps

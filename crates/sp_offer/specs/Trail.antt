@@ -4,7 +4,7 @@ use mathlib.Core.List.{IsPrefix}
 use Rattle.sp_word.specs.Word.{Word}
 use Rattle.sp_word.specs.History.{Event, run}
 use Rattle.sp_offer.specs.Histories.{blank}
-use Rattle.sp_offer.specs.Interleaving.{Taken, calls_of}
+use Rattle.sp_offer.specs.Interleaving.{TakenStep, calls_of}
 
 -- A step found this word of the vertex, after these calls, and after this number of steps of all callers.
 pub record Found : Type 0 where
@@ -44,17 +44,17 @@ abbrev pub Ends : Event → List Event → List Found → Type 0
 Ends e seen trail = seen ≡ last_front trail ++ e ∷ []
 
 -- This is one of the steps of all callers, whose list has the latest first.
-abbrev pub IsTaken : List Taken → Found → Type 0
+abbrev pub IsTaken : List TakenStep → Found → Type 0
 IsTaken [] f = ⊥
 IsTaken (s ∷ before) f =
     ((f.turn ≡ length before) × (f.vertex ≡ s.vertex) × (f.word ≡ s.found) × (f.front ≡ calls_of before)) ⊎ IsTaken before f
 
 -- Each step of the trail is one of the steps of all callers.
-abbrev pub AreTaken : List Taken → List Found → Type 0
+abbrev pub AreTaken : List TakenStep → List Found → Type 0
 AreTaken steps [] = Unit {0}
 AreTaken steps (f ∷ fs) = IsTaken steps f × AreTaken steps fs
 
 -- Each of these trails has steps of all callers.
-abbrev pub EachTaken : List Taken → List (List Found) → Type 0
+abbrev pub EachTaken : List TakenStep → List (List Found) → Type 0
 EachTaken steps [] = Unit {0}
 EachTaken steps (trail ∷ trails) = AreTaken steps trail × EachTaken steps trails

@@ -4,14 +4,14 @@
 //! call; contracts see the legal history that it has seen, and which calls in it are its own.
 #![tactic(auto)]
 
+mod atomic_words;
 mod law;
 mod lowering;
 mod rule;
 mod table;
 mod view;
-mod words;
 
+pub use atomic_words::{CallerSeat, Words};
 pub use law::{AnyWord, Lawful};
 pub use lowering::{Loop, Lowering, OneMin};
 pub use table::{Caller, OfferTable, Offered, SplitRefused};
-pub use words::{CallerSeat, Words};

@@ -6,8 +6,8 @@ ghost use Rattle.sp_offer.specs.Parts.{id_of, vertices_of, layout_of, word_in, l
 ghost use Rattle.sp_offer.specs.Lowering.{Finding, by_steps, by_one_step};
 ghost use Rattle.sp_offer.specs.Rule.{seat_story, IsAtRest, IsSameSeat};
 
+use crate::atomic_words::{CallerSeat, Words};
 use crate::law::Lawful;
-use crate::words::{CallerSeat, Words};
 use std::marker::Brand;
 
 /// A way to lower a word, given by its bits.

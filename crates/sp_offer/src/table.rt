@@ -8,9 +8,9 @@ ghost use Rattle.sp_word.specs.Reply.{reply_to};
 ghost use Rattle.sp_offer.specs.Story.{IsTried, empty_story, own_calls, reads_of};
 ghost use Rattle.sp_offer.specs.Calling.{IsSameCaller, KeepsPlaces, HasSameCalls, HasSameTrail, OffersBy, ReadsBy, Copies, IsBeside, offer_of, read_of, Tells, Owns, OwnsAll, Offers, ReadsWord, ReadsWords, CopiesWords, SeesBoth};
 
+use crate::atomic_words::{CallerSeat, Words};
 use crate::law::Lawful;
 use crate::lowering::{Loop, Lowering};
-use crate::words::{CallerSeat, Words};
 use sp_word::{Reply, Word, decide};
 use std::alloc::{AllocError, Global};
 use std::marker::{Brand, Model};

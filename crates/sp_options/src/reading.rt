@@ -1,8 +1,8 @@
 //! Devices that report how much has been read from them.
 ghost use Rattle.std.specs.Prelude.{◌≡◌};
 
-use crate::running::Teller;
-use sp_command::{FileKind, Inputs, Report};
+use crate::running::ProgressReporter;
+use sp_command::{FileKind, Inputs, ProgressReport};
 use sp_device::{Failed, Read};
 
 // The number of bytes between two reports.
@@ -13,7 +13,7 @@ const STRETCH: u64 = 1 << 20;
 pub struct Watched<'t, 'f, D, F> {
     device: D,
     file: FileKind,
-    teller: &'t Teller<'f, F>,
+    reporter: &'t ProgressReporter<'f, F>,
     // The number of bytes that have been read so far.
     bytes: u64,
     // The number of bytes at which the next report is made.
@@ -22,7 +22,7 @@ pub struct Watched<'t, 'f, D, F> {
 
 impl<'t, 'f, D: Read, F: Inputs> Watched<'t, 'f, D, F> {
     /// Returns a watched device from which nothing has been read yet.
-    pub fn new(device: D, file: FileKind, teller: &'t Teller<'f, F>) -> Self
+    pub fn new(device: D, file: FileKind, reporter: &'t ProgressReporter<'f, F>) -> Self
         ensures left { ⟦<Watched<'static, 'static, D, F> as Read>⟧.left result ≡ D.left device }
         ensures has_failed { ⟦<Watched<'static, 'static, D, F> as Read>⟧.has_failed result
             ≡ D.has_failed device }
@@ -32,7 +32,7 @@ impl<'t, 'f, D: Read, F: Inputs> Watched<'t, 'f, D, F> {
         Watched {
             device,
             file,
-            teller,
+            reporter,
             bytes: 0,
             next: STRETCH,
         }
@@ -45,7 +45,7 @@ impl<'t, 'f, D: Read, F: Inputs> Watched<'t, 'f, D, F> {
         self.bytes = self.bytes.saturating_add(bytes as u64);
         if bytes == 0 || self.bytes >= self.next {
             self.next = self.bytes.saturating_add(STRETCH);
-            self.teller.tell(Report::Read {
+            self.reporter.tell(ProgressReport::Read {
                 file: self.file,
                 bytes: self.bytes,
             });

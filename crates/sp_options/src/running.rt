@@ -15,7 +15,7 @@ use crate::flags::flag_in;
 use crate::width::Width;
 use crate::workers::{WORKERS, read_workers, workers_option};
 use clap::{Arg, ArgMatches, Command, Error};
-use sp_command::{BuiltCommand, Fault, FileKind, Inputs, Report, Status, flag};
+use sp_command::{BuiltCommand, Fault, FileKind, Inputs, ProgressReport, Status, flag};
 use sp_jobs::{BatchError, Listener, Progress, Role, Settings, Summary};
 use sp_network::{Direction, NetworkFault};
 use sp_word::{Meter, Workers};
@@ -131,9 +131,9 @@ impl RunOptions {
         })
     }
 
-    /// Returns a teller that reports progress to the files of the command line, if the options ask for it.
-    pub fn teller<'f, F: Inputs>(&self, files: &'f F) -> Teller<'f, F> {
-        Teller::new(files, self.progress)
+    /// Returns a reporter that reports progress to the files of the command line, if the options ask for it.
+    pub fn reporter<'f, F: Inputs>(&self, files: &'f F) -> ProgressReporter<'f, F> {
+        ProgressReporter::new(files, self.progress)
     }
 
     /// Returns how a command ends after its batch gave this answer.
@@ -148,35 +148,35 @@ impl RunOptions {
 }
 
 /// A listener that reports the progress of a run to the files of a command line.
-pub struct Teller<'f, F> {
+pub struct ProgressReporter<'f, F> {
     files: &'f F,
     is_asked: bool,
 }
 
-impl<F> Drop for Teller<'_, F> {
+impl<F> Drop for ProgressReporter<'_, F> {
     fn drop(self) {
-        let Teller {
+        let ProgressReporter {
             files: _,
             is_asked: _,
         } = self;
     }
 }
 
-impl<'f, F: Inputs> Teller<'f, F> {
-    /// Returns a teller that reports progress to these files, if it is asked for.
+impl<'f, F: Inputs> ProgressReporter<'f, F> {
+    /// Returns a reporter that reports progress to these files, if it is asked for.
     pub fn new(files: &'f F, is_asked: bool) -> Self {
-        Teller { files, is_asked }
+        ProgressReporter { files, is_asked }
     }
 
     /// Reports progress, if it was asked for.
-    pub fn tell(&self, report: Report) {
+    pub fn tell(&self, report: ProgressReport) {
         if self.is_asked {
             self.files.tell(report);
         }
     }
 }
 
-impl<F: Inputs> Listener for Teller<'_, F> {
+impl<F: Inputs> Listener for ProgressReporter<'_, F> {
     fn hear(&self, progress: Progress) {
         self.tell(report_of(progress));
     }
@@ -191,28 +191,28 @@ impl<F: Inputs> Listener for Teller<'_, F> {
 }
 
 // Returns the report for a batch's progress.
-fn report_of(progress: Progress) -> Report {
+fn report_of(progress: Progress) -> ProgressReport {
     match progress {
-        Progress::Graph { vertices, arcs } => Report::Graph {
+        Progress::Graph { vertices, arcs } => ProgressReport::Graph {
             vertices,
             arcs: arcs as u64,
         },
-        Progress::Sources { written, count } => Report::Sources {
+        Progress::Sources { written, count } => ProgressReport::Sources {
             done: written.sources,
             count: count as u64,
             bytes: written.bytes,
         },
-        Progress::Runs { written, count } => Report::Runs {
+        Progress::Runs { written, count } => ProgressReport::Runs {
             done: written.sources,
             count: count as u64,
             bytes: written.bytes,
         },
-        Progress::Lines { written, count } => Report::Lines {
+        Progress::Lines { written, count } => ProgressReport::Lines {
             done: written.sources,
             count: count as u64,
             bytes: written.bytes,
         },
-        Progress::Pairs { found, count } => Report::Pairs {
+        Progress::Pairs { found, count } => ProgressReport::Pairs {
             done: found as u64,
             count: count as u64,
         },

@@ -1,5 +1,5 @@
 //! The width of a bucket: a number, or the mean length of an arc.
-ghost use Rattle.std.specs.Prelude.{◌≡◌, ◌≤◌, ℕ, true, Ok, Some, IfOk, IfSome, IsNone, MatchOption};
+ghost use Rattle.std.specs.Prelude.{◌≡◌, ◌≤◌, ℕ, true, Ok, Some, IfOk, IfSome, MatchOption};
 ghost use Rattle.std.specs.Option.{SomeIff};
 ghost use Rattle.sp_word.specs.Word.{is_layout};
 ghost use Rattle.clap.specs.Walk.{rule_of};
@@ -7,7 +7,8 @@ ghost use Rattle.sp_options.specs.Rules.{mean_rule, width_rule};
 ghost use Rattle.sp_options.specs.Numbers.{SpellsNumber};
 ghost use Rattle.sp_options.specs.Width.{bucket_of, IsBucket, SpellsWidth};
 
-use clap::{Arg, Command, Error, value_parser};
+use crate::refusing::refuse;
+use clap::{Arg, Error, value_parser};
 use sp_command::valued;
 use sp_jobs::BucketWidth;
 use sp_word::Delta;
@@ -70,7 +71,12 @@ impl Width {
         }
         match number_in(text) {
             Some(number) => Ok(Some(Width::Number(number))),
-            None => refuse(alloc, text),
+            None => {
+                let parser = value_parser!(u64).range(1..=MAX_DELTA as i64);
+                let option = Self::option(alloc).value_parser(parser);
+                let word = format!(in alloc; "--delta={text}")?;
+                refuse(alloc, option, &["spt", word.as_str()])
+            }
         }
     }
 
@@ -97,21 +103,4 @@ fn number_in(text: &str) -> Option<u64>
         return None;
     }
     Some(number)
-}
-
-// Returns the error with which `clap` refuses a text that isn't a number in range, or `None` if `clap` accepts the
-// text.
-fn refuse(alloc: Global, text: &str) -> Result<Option<Width>, Error>
-    ensures { IfOk result IsNone }
-{
-    let word = format!(in alloc; "--delta={text}")?;
-    Command::new(alloc, "spt")
-        .arg(number_option(alloc))?
-        .try_get_matches_from(&["spt", word.as_str()])?;
-    Ok(None)
-}
-
-// Returns the option. It accepts a number in range as its value.
-fn number_option<'a>(alloc: Global) -> Arg<'a> {
-    Width::option(alloc).value_parser(value_parser!(u64).range(1..=MAX_DELTA as i64))
 }

@@ -1,5 +1,5 @@
 //! The greatest distance to report.
-ghost use Rattle.std.specs.Prelude.{◌≡◌, ℕ, true, Ok, Some, IfOk, IfErr, IfSome, IsNone, MatchOption, MatchResult};
+ghost use Rattle.std.specs.Prelude.{◌≡◌, ℕ, true, Ok, Some, IfOk, IfErr, IfSome, MatchOption, MatchResult};
 ghost use Rattle.sp_word.specs.Word.{is_layout};
 ghost use Rattle.clap.specs.Matches.{found_of};
 ghost use Rattle.clap.specs.Walk.{rule_of};
@@ -7,7 +7,8 @@ ghost use Rattle.sp_options.specs.Rules.{within_rule};
 ghost use Rattle.sp_options.specs.Within.{HasLimit, IsLimit, LacksLimit, SpellsLimit};
 ghost use Rattle.sp_command.specs.declared.faults.Fault.TheVariants.{LimitOutOfRange};
 
-use clap::{Arg, ArgMatches, Command, Error, value_parser};
+use crate::refusing::refuse;
+use clap::{Arg, ArgMatches, Error, value_parser};
 use sp_command::{Fault, valued};
 use sp_word::Word;
 use std::alloc::Global;
@@ -81,7 +82,12 @@ fn read_limit(alloc: Global, text: &str) -> Result<Option<u64>, Error>
 {
     match number_in(text) {
         Some(limit) => Ok(Some(limit)),
-        None => refuse(alloc, text),
+        None => {
+            let parser = value_parser!(u64).range(0..=MAX_LIMIT as i64);
+            let option = Within::option(alloc).value_parser(parser);
+            let word = format!(in alloc; "--within={text}")?;
+            refuse(alloc, option, &["spt", word.as_str()])
+        }
     }
 }
 
@@ -95,21 +101,4 @@ fn number_in(text: &str) -> Option<u64>
         return None;
     }
     Some(number)
-}
-
-// Returns the error with which `clap` refuses a text that isn't a number in range, or `None` if `clap` accepts the
-// text.
-fn refuse(alloc: Global, text: &str) -> Result<Option<u64>, Error>
-    ensures { IfOk result IsNone }
-{
-    let word = format!(in alloc; "--within={text}")?;
-    Command::new(alloc, "spt")
-        .arg(number_option(alloc))?
-        .try_get_matches_from(&["spt", word.as_str()])?;
-    Ok(None)
-}
-
-// Returns the option. It accepts a number in range as its value.
-fn number_option<'a>(alloc: Global) -> Arg<'a> {
-    Within::option(alloc).value_parser(value_parser!(u64).range(0..=MAX_LIMIT as i64))
 }

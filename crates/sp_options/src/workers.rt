@@ -1,12 +1,13 @@
 //! The number of workers: a number, or the number of processors.
-ghost use Rattle.std.specs.Prelude.{◌≡◌, ℕ, Ok, Some, IfOk, IfSome, IsNone, MatchOption};
+ghost use Rattle.std.specs.Prelude.{◌≡◌, ℕ, Ok, Some, IfOk, IfSome, MatchOption};
 ghost use Rattle.sp_word.specs.Ranges.{IsCrew};
 ghost use Rattle.clap.specs.Walk.{rule_of};
 ghost use Rattle.sp_options.specs.Rules.{workers_rule};
 ghost use Rattle.sp_options.specs.Numbers.{SpellsNumber};
 ghost use Rattle.sp_options.specs.Workers.{SpellsWorkers};
 
-use clap::{Arg, Command, Error, value_parser};
+use crate::refusing::refuse;
+use clap::{Arg, Error, value_parser};
 use sp_command::valued;
 use sp_word::{MOST_WORKERS, Workers};
 use std::alloc::Global;
@@ -39,7 +40,12 @@ pub fn read_workers(alloc: Global, text: &str) -> Result<Option<Workers>, Error>
     }
     match number_in(text) {
         Some(workers) => Ok(Some(workers)),
-        None => refuse(alloc, text),
+        None => {
+            let parser = value_parser!(u32).range(1..=MOST_WORKERS as i64);
+            let option = workers_option(alloc, "").value_parser(parser);
+            let word = format!(in alloc; "--workers={text}")?;
+            refuse(alloc, option, &["spt", word.as_str()])
+        }
     }
 }
 
@@ -49,21 +55,4 @@ fn number_in(text: &str) -> Option<Workers>
         (λ number. SpellsNumber text.now number × IsCrew number) }
 {
     Workers::new(text.parse().ok()?)
-}
-
-// Returns the error with which `clap` refuses a text that isn't a number in range, or `None` if `clap` accepts the
-// text.
-fn refuse(alloc: Global, text: &str) -> Result<Option<Workers>, Error>
-    ensures { IfOk result IsNone }
-{
-    let word = format!(in alloc; "--workers={text}")?;
-    Command::new(alloc, "spt")
-        .arg(number_option(alloc))?
-        .try_get_matches_from(&["spt", word.as_str()])?;
-    Ok(None)
-}
-
-// Returns the option. It accepts a number in range as its value.
-fn number_option<'a>(alloc: Global) -> Arg<'a> {
-    workers_option(alloc, "").value_parser(value_parser!(u32).range(1..=MOST_WORKERS as i64))
 }

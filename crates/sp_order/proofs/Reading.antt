@@ -23,8 +23,8 @@ use Rattle.sp_command.specs.declared.faults.Fault.{Fault}
 use Rattle.sp_command.specs.declared.faults.Fault.TheVariants as fault
 use Rattle.sp_command.specs.Reading.{IsRefusedFor}
 use Rattle.sp_command.specs.Rules.{AddsCommands, with_subcommands}
-use Rattle.sp_order.specs.declared.words.Order.{Order}
-use Rattle.sp_order.specs.declared.words.Order.TheVariants.{Show, Run}
+use Rattle.sp_order.specs.declared.order.Order.{Order}
+use Rattle.sp_order.specs.declared.order.Order.TheVariants.{Show, Run}
 use Rattle.sp_order.specs.Reads.{GoesTo, HasFound, IsDisordered, IsFoundIn, IsOrdered, IsOrderIn, IsProgram, IsRefusedIn, IsRunIn, IsShowOf, LacksLayout, LacksOrder, OrdersNone, bare_app}
 use Rattle.sp_order.specs.Words.{NamesOutput, NamesNoOutput, is_text}
 

@@ -16,8 +16,8 @@ use Rattle.sp_command.specs.Outputs.{OutputFiles, IsBlank, with_kept}
 use Rattle.sp_command.specs.Scene.{Files, Scene, scene, IsUnwritten}
 use Rattle.sp_command.specs.Lines.{IsPlain}
 use Rattle.sp_order.specs.Reads.{IsDisordered, IsOrdered}
-use Rattle.sp_order.specs.declared.words.Order.{Order}
-use Rattle.sp_order.specs.declared.words.Order.TheVariants.{Show, Run}
+use Rattle.sp_order.specs.declared.order.Order.{Order}
+use Rattle.sp_order.specs.declared.order.Order.TheVariants.{Show, Run}
 
 -- ## An output that goes to a file
 

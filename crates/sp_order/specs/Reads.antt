@@ -17,8 +17,8 @@ use Rattle.sp_command.specs.declared.faults.Fault.TheVariants as fault
 use Rattle.sp_command.specs.declared.layout.PredBits.{PredBits}
 use Rattle.sp_command.specs.Rules.{AreWhole, with_subcommands}
 use Rattle.sp_command.specs.Words.{spelling_of}
-use Rattle.sp_order.specs.declared.words.Order.{Order}
-use Rattle.sp_order.specs.declared.words.Order.TheVariants.{Show, Run}
+use Rattle.sp_order.specs.declared.order.Order.{Order}
+use Rattle.sp_order.specs.declared.order.Order.TheVariants.{Show, Run}
 use Rattle.sp_order.specs.Words.{NamesOutput, NamesNoOutput, is_text}
 
 -- ## What is read of what `clap` has found

@@ -4,8 +4,8 @@ use Rattle.clap.specs.Matches.{first_value}
 use Rattle.clap.specs.declared.error.kind.ErrorKind.{ErrorKind}
 use Rattle.clap.specs.declared.error.kind.ErrorKind.TheVariants as kind
 use Rattle.clap.specs.declared.parser.matches.Found.{Found}
-use Rattle.sp_order.specs.declared.words.Order.{Order}
-use Rattle.sp_order.specs.declared.words.Order.TheVariants.{Show, Run}
+use Rattle.sp_order.specs.declared.order.Order.{Order}
+use Rattle.sp_order.specs.declared.order.Order.TheVariants.{Show, Run}
 
 -- Help or the version was asked for, which is no fault.
 abbrev pub is_text : ErrorKind → Bool

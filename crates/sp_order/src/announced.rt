@@ -1,10 +1,6 @@
 //! The number of vertices that a packed graph announces.
 use sp_device::Read;
-
-// The first two words of a packed graph.
-const FIRST: u32 = 0x5450_5389;
-
-const SECOND: u32 = 0x011A_0A0D;
+use sp_packed::{FIRST, SECOND};
 
 /// Returns the number of vertices that a packed graph announces, if the file is one.
 pub fn announced_vertices<R: Read + Drop>(file: R) -> Option<u64> {

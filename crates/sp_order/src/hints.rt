@@ -7,9 +7,9 @@ ghost use Rattle.sp_order.specs.Told.{Tells};
 use crate::announced::announced_vertices;
 use crate::fields::Fields;
 use crate::line_hints::{Refused, advice_in, advice_without};
+use crate::order::Order;
 use crate::usage_hints::{places_hint, usage_hint};
 use crate::vertex_hints::{vertex_hint, vertices_in};
-use crate::words::Order;
 use sp_command::{
     Advice, Commands, Fault, FileKind, Hint, Inputs, PredBits, hint_of, output_hint, print_short,
 };

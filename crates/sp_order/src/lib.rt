@@ -9,9 +9,9 @@ mod fields;
 mod help;
 mod hints;
 mod line_hints;
+mod order;
 mod run;
 mod usage_hints;
 mod vertex_hints;
-mod words;
 
 pub use run::run_line;

@@ -3,6 +3,7 @@ use crate::fields::Fields;
 use sp_command::{Advice, FileKind, PredBits};
 use sp_device::Read;
 use sp_dimacs::Lines;
+use sp_packed::FIRST;
 use sp_text::Kind;
 
 /// Where a line was refused, and why.
@@ -118,7 +119,9 @@ fn advice_on_form<'a>(refused: Refused<'a>, line: &[u8], has_problem: bool) -> A
 // Returns whether a line has the first word of a packed graph.
 fn begins_packed(line: &[u8]) -> bool {
     match line {
-        [0x89, b'S', b'P', b'T', ..] => true,
+        [first, second, third, fourth, ..] => {
+            u32::from_le_bytes([*first, *second, *third, *fourth]) == FIRST
+        }
         _ => false,
     }
 }

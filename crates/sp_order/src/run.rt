@@ -11,7 +11,7 @@ ghost use Rattle.sp_order.specs.Told.{EndsWith, IsAnswered};
 ghost use Rattle.sp_order.specs.Words.{names_output};
 
 use crate::hints::Refusal;
-use crate::words::{Answer, Order, read_order};
+use crate::order::{Order, UsageText, read_order};
 use sp_command::{Commands, Fault, FileKind, Inputs, Outputs, PredBits, RunIn, Status, print};
 use sp_device::Write;
 use std::alloc::Global;
@@ -32,7 +32,7 @@ pub fn run_line<'a, C, T, R: Threads + Wait + Sync, F: Outputs, W: Write, E: Wri
 ) -> u8
 where
     C: Commands<'a> + RunIn,
-    T: Answer,
+    T: UsageText,
     ensures range { result ≤ 6 }
     ensures silent { result ≡ 0 → err.new ≡ err.old }
     ensures silent_no { result ≡ 3 → err.new ≡ err.old }
@@ -71,7 +71,7 @@ fn obey<'a, C, T, R: Threads + Wait + Sync, F: Outputs, W: Write>(
 ) -> Result<Status, Refusal<'a>>
 where
     C: Commands<'a> + RunIn,
-    T: Answer,
+    T: UsageText,
     ensures done { IfOk result (λ status. is_done status ≡ true) }
     ensures untouched { IfErr result
         (λ refusal. is_early refusal.fault ≡ true → out.new ≡ out.old) }

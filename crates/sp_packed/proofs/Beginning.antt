@@ -7,7 +7,7 @@ use Rattle.sp_packed.specs.Words.{sum_on, no_sum, sum_words}
 use Rattle.sp_packed.specs.Packed.{head_words, arcs_words, content, with_sum}
 use Rattle.sp_packed.specs.Ends.{IsRise, AreEnds, AreFirstEnds}
 use Rattle.sp_packed.specs.Rows.{AreRows, IsNext, MayFollow, MayHead, MayStand}
-use Rattle.sp_packed.specs.Parts.{AreParts, Begun}
+use Rattle.sp_packed.specs.Parts.{AreParts, BegunGraph}
 use Rattle.sp_packed.specs.Reading.{AreCounts}
 use Rattle.sp_packed.proofs.Spelling.{same_parts}
 use Rattle.sp_packed.proofs.RowSteps.{length-arcs_words, arcs_words-append, no_rows_yet, rows_more, fill, longest_stands, agree_front, head_only, stand_only}
@@ -33,7 +33,7 @@ length-content n ends arcs = omega (arith, length-append ends (arcs_words arcs),
 
 -- ## What begins
 
-abbrev pub whole_begun : (top most n : ℕ) (ends : List ℕ) (arcs : List Arc) → AreParts top most n ends arcs → Begun top most (with_sum (content n ends arcs))
+abbrev pub whole_begun : (top most n : ℕ) (ends : List ℕ) (arcs : List Arc) → AreParts top most n ends arcs → BegunGraph top most (with_sum (content n ends arcs))
 whole_begun top most n ends arcs parts = record {
   n = n;
   ends = ends;
@@ -44,7 +44,7 @@ whole_begun top most n ends arcs parts = record {
 }
 
 module _ (top most : ℕ) where
-  pub begun_front : (xs ys : List ℕ) → Begun top most (xs ++ ys) → Begun top most xs
+  pub begun_front : (xs ys : List ℕ) → BegunGraph top most (xs ++ ys) → BegunGraph top most xs
   begun_front xs ys b = record {
     n = b.n;
     ends = b.ends;
@@ -54,8 +54,8 @@ module _ (top most : ℕ) where
     is = b.is ∙ append_assoc xs ys b.more;
   }
 
-  pub begun_take : (xs : List ℕ) (k : ℕ) → Begun top most xs → Begun top most (take k xs)
-  begun_take xs k b = begun_front (take k xs) (drop k xs) (subst (Begun top most) (sym (take-append-drop k xs)) b)
+  pub begun_take : (xs : List ℕ) (k : ℕ) → BegunGraph top most xs → BegunGraph top most (take k xs)
+  begun_take xs k b = begun_front (take k xs) (drop k xs) (subst (BegunGraph top most) (sym (take-append-drop k xs)) b)
 
   module _ (n m : ℕ) (counts : AreCounts top most n m) where
     pub parts_are : (ends : List ℕ) (arcs : List Arc) → AreEnds n m ends → AreRows n ends arcs → length arcs ≡ m → AreParts top most n ends arcs
@@ -71,25 +71,25 @@ module _ (top most : ℕ) where
 
     -- some arcs of rows that end there
     pub rows_begun : (ends : List ℕ) (arcs : List Arc) → AreEnds n m ends → AreRows n ends arcs → length arcs ≤ m
-        → Begun top most (head_words n m ++ (ends ++ arcs_words arcs))
+        → BegunGraph top most (head_words n m ++ (ends ++ arcs_words arcs))
     rows_begun ends arcs are rows le =
         let filled = fill n m ends counts.some are (m - length arcs) arcs rows (omega arith) in
         let added = filled.0 in
         let all = arcs ++ added in
         let parts = parts_are ends all are filled.1 filled.2 in
         let sum = sum_words (sum_on no_sum (content n ends all)) in
-        let whole : Begun top most (content n ends all) = begun_front (content n ends all) sum (whole_begun top most n ends all parts) in
+        let whole : BegunGraph top most (content n ends all) = begun_front (content n ends all) sum (whole_begun top most n ends all parts) in
         let front = head_words n m ++ (ends ++ arcs_words arcs) in
         let same : content n ends all ≡ front ++ arcs_words added
         = ap (λ k. head_words n k ++ (ends ++ arcs_words all)) filled.2
         ∙ ap (λ l. head_words n m ++ (ends ++ l)) (arcs_words-append arcs added)
         ∙ ap (λ l. head_words n m ++ l) (sym (append_assoc ends (arcs_words arcs) (arcs_words added)))
         ∙ sym (append_assoc (head_words n m) (ends ++ arcs_words arcs) (arcs_words added)) in
-        begun_front front (arcs_words added) (subst (Begun top most) same whole)
+        begun_front front (arcs_words added) (subst (BegunGraph top most) same whole)
 
     -- and the head of the next
     pub head_begun : (ends : List ℕ) (arcs : List Arc) (a : Arc) → AreEnds n m ends → AreRows n ends arcs → length arcs < m
-        → IsNext n ends arcs a → MayHead n arcs a → Begun top most (head_words n m ++ (ends ++ (arcs_words arcs ++ (a.head ∷ []))))
+        → IsNext n ends arcs a → MayHead n arcs a → BegunGraph top most (head_words n m ++ (ends ++ (arcs_words arcs ++ (a.head ∷ []))))
     head_begun ends arcs a are rows lt next may =
         let b : Arc = record { tail = a.tail; head = a.head; len = 2 ^ 32 - 1 } in
         let next' : IsNext n ends arcs b = record { some = next.some; within = next.within; row = next.row; fits = omega arith } in
@@ -107,7 +107,7 @@ module _ (top most : ℕ) where
         = ap (λ l. head_words n m ++ (ends ++ l)) (arcs_words-append arcs (b ∷ []) ∙ sym (append_assoc (arcs_words arcs) (a.head ∷ []) last))
         ∙ ap (λ l. head_words n m ++ l) (sym (append_assoc ends front last))
         ∙ sym (append_assoc (head_words n m) (ends ++ front) last) in
-        begun_front (head_words n m ++ (ends ++ front)) last (subst (Begun top most) same begun)
+        begun_front (head_words n m ++ (ends ++ front)) last (subst (BegunGraph top most) same begun)
 
     -- the first ends of rows
     module _ (ends : List ℕ) (some : 1 ≤ length ends) (h : AreFirstEnds n m ends) where
@@ -152,13 +152,13 @@ module _ (top most : ℕ) where
       filled_are : AreEnds n m (ends ++ replicate (n + 1 - length ends) m)
       filled_are = record { size = size; rising = record { begin = here 0 some ∙ h.rising.begin; rise = up }; last = last }
 
-      pub ends_begun : Begun top most (head_words n m ++ ends)
+      pub ends_begun : BegunGraph top most (head_words n m ++ ends)
       ends_begun =
           let fills = replicate (n + 1 - length ends) m in
           let begun = rows_begun (ends ++ fills) [] filled_are (no_rows_yet n (ends ++ fills)) (omega arith) in
           let same : head_words n m ++ ((ends ++ fills) ++ []) ≡ (head_words n m ++ ends) ++ fills
           = ap (λ l. head_words n m ++ l) (append-nil (ends ++ fills)) ∙ sym (append_assoc (head_words n m) ends fills) in
-          begun_front (head_words n m ++ ends) fills (subst (Begun top most) same begun)
+          begun_front (head_words n m ++ ends) fills (subst (BegunGraph top most) same begun)
 
 -- ## What words that begin so tell
 
@@ -173,7 +173,7 @@ unfolding head_words
 head_same n m k l xs ys e = (ap (λ (x : List ℕ). get_or x 2 0) e, ap (λ (x : List ℕ). get_or x 3 0) e, ap (λ (x : List ℕ). drop 4 x) e)
 
 module _ (top most n m : ℕ) where
-  module _ (xs : List ℕ) (b : Begun top most (head_words n m ++ xs)) where
+  module _ (xs : List ℕ) (b : BegunGraph top most (head_words n m ++ xs)) where
     tells : (b.n ≡ n) × (length b.arcs ≡ m) × (b.ends ++ (arcs_words b.arcs ++ sum_words (sum_on no_sum (content b.n b.ends b.arcs))) ≡ xs ++ b.more)
     tells =
         head_same b.n (length b.arcs) n m (b.ends ++ (arcs_words b.arcs ++ sum_words (sum_on no_sum (content b.n b.ends b.arcs)))) (xs ++ b.more)
@@ -188,7 +188,7 @@ module _ (top most n m : ℕ) where
     pub ends_there : AreEnds n m b.ends
     ends_there = subst (λ k. AreEnds k m b.ends) tells.0 (subst (λ k. AreEnds b.n k b.ends) tells.1 b.parts.ends_are)
 
-  pub ends_only : (xs : List ℕ) → Begun top most (head_words n m ++ xs) → length xs ≤ n + 1 → AreFirstEnds n m xs
+  pub ends_only : (xs : List ℕ) → BegunGraph top most (head_words n m ++ xs) → length xs ≤ n + 1 → AreFirstEnds n m xs
   ends_only xs b few = record { few = few; rising = record { begin = begin; rise = rise }; last = last }
     where
       are : AreEnds n m b.ends
@@ -210,7 +210,7 @@ module _ (top most n m : ℕ) where
       last : length xs ≡ n + 1 → get_or xs n 0 ≡ m
       last full = agree n (omega (arith, full)) ∙ are.last
 
-  module _ (ends : List ℕ) (are : AreEnds n m ends) (ys : List ℕ) (b : Begun top most (head_words n m ++ (ends ++ ys))) where
+  module _ (ends : List ℕ) (are : AreEnds n m ends) (ys : List ℕ) (b : BegunGraph top most (head_words n m ++ (ends ++ ys))) where
     behind_ends : (b.ends ≡ ends) × (arcs_words b.arcs ++ sum_words (sum_on no_sum (content b.n b.ends b.arcs)) ≡ ys ++ b.more)
     behind_ends =
         same_parts b.ends ends (arcs_words b.arcs ++ sum_words (sum_on no_sum (content b.n b.ends b.arcs))) (ys ++ b.more)
@@ -223,7 +223,7 @@ module _ (top most n m : ℕ) where
     arcs_there = m_told (ends ++ ys) b
 
   module _ (ends : List ℕ) (are : AreEnds n m ends) (arcs : List Arc) (a : Arc) (h : AreRows n ends arcs) (lt : length arcs < m) (next : IsNext n ends arcs a) where
-    pub head_told : Begun top most (head_words n m ++ (ends ++ (arcs_words arcs ++ (a.head ∷ [])))) → MayHead n arcs a
+    pub head_told : BegunGraph top most (head_words n m ++ (ends ++ (arcs_words arcs ++ (a.head ∷ [])))) → MayHead n arcs a
     head_told b =
         let ys = arcs_words arcs ++ (a.head ∷ []) in
         let there = arcs_there ends are ys b in
@@ -232,7 +232,7 @@ module _ (top most n m : ℕ) where
         (agree_front (arcs_words b.arcs) ys sum b.more (behind_ends ends are ys b).1
         (omega (arith, length-append (arcs_words arcs) (a.head ∷ []), length-arcs_words arcs, length-arcs_words b.arcs, there, lt)))
 
-    pub stand_told : Begun top most (head_words n m ++ (ends ++ (arcs_words arcs ++ (a.head ∷ a.len ∷ [])))) → MayStand n arcs a
+    pub stand_told : BegunGraph top most (head_words n m ++ (ends ++ (arcs_words arcs ++ (a.head ∷ a.len ∷ [])))) → MayStand n arcs a
     stand_told b =
         let ys = arcs_words arcs ++ (a.head ∷ a.len ∷ []) in
         let there = arcs_there ends are ys b in
@@ -243,7 +243,7 @@ module _ (top most n m : ℕ) where
 
   -- the words behind the content are those of its sum
   module _ (ends : List ℕ) (are : AreEnds n m ends) (arcs : List Arc) (size : length arcs ≡ m) (ys : List ℕ)
-      (b : Begun top most (head_words n m ++ (ends ++ (arcs_words arcs ++ ys)))) where
+      (b : BegunGraph top most (head_words n m ++ (ends ++ (arcs_words arcs ++ ys)))) where
     behind_arcs : (arcs_words b.arcs ≡ arcs_words arcs) × (sum_words (sum_on no_sum (content b.n b.ends b.arcs)) ≡ ys ++ b.more)
     behind_arcs =
         same_parts (arcs_words b.arcs) (arcs_words arcs) (sum_words (sum_on no_sum (content b.n b.ends b.arcs))) (ys ++ b.more)

@@ -5,14 +5,14 @@ use Rattle.std.proofs.KnownBytes.{Consumes-trans, Consumes-nil}
 use Rattle.std.proofs.Math.Seq.{take-append-add}
 use Rattle.std.proofs.lemmas.Bool.{cases_lt}
 use Rattle.std.proofs.lemmas.List.{append-nil, get_or_append_left, get_or_push, length-take-le, take_all, take_more}
-use Rattle.sp_packed.specs.declared.words.Sum.{Sum}
+use Rattle.sp_packed.specs.declared.word_sums.Sum.{Sum}
 use Rattle.sp_packed.specs.declared.faults.PackedKind.{PackedKind}
 use Rattle.sp_packed.specs.declared.faults.PackedKind.TheVariants.{OutOfRange, TooFew, Memory, Read}
 use Rattle.sp_packed.specs.declared.faults.PackedField.TheVariants.{End}
 use Rattle.sp_packed.specs.Words.{words, sum_on, HasCome}
 use Rattle.sp_packed.specs.Packed.{head_words}
 use Rattle.sp_packed.specs.Ends.{IsRise, AreRising, AreFirstEnds, HasEnds}
-use Rattle.sp_packed.specs.Parts.{Begun}
+use Rattle.sp_packed.specs.Parts.{BegunGraph}
 use Rattle.sp_packed.specs.Reading.{front_words, Told, ToldBehind}
 use Rattle.sp_packed.proofs.Spelling.{words-append, sum_on-append, fit_both}
 use Rattle.sp_packed.proofs.Beginning.{begun_take, ends_begun, ends_only, n_told}
@@ -141,8 +141,8 @@ module _ (n m want : ℕ) (old mid new : Option (List ℕ)) (s t : Sum) (has_fai
   end_wrong k at is lt before wrong top most start counts first =
       let word = 4 + length ends + k in
       let front = head_words n m ++ (ends ++ take k ns) in
-      let b : Begun top most front = ends_begun top most n m counts (ends ++ take k ns) (omega (arith, length-append ends (take k ns), some)) before in
-      let none : Begun top most (head_words n m ++ (ends ++ take (k + 1) ns)) → ⊥
+      let b : BegunGraph top most front = ends_begun top most n m counts (ends ++ take k ns) (omega (arith, length-append ends (take k ns), some)) before in
+      let none : BegunGraph top most (head_words n m ++ (ends ++ take (k + 1) ns)) → ⊥
       = λ next. wrong (ends_only top most n m (ends ++ take (k + 1) ns) next (omega (arith, length-append ends (take (k + 1) ns), length-take-le (k + 1) ns (omega arith), room, come.within, lt))) in
       subst (λ x. Told top most start new has_failed (record { at = x; kind = OutOfRange End })) (sym is)
       (told_other top most start new has_failed (head_words n m ++ (ends ++ ns)) come.part (took start first) word (OutOfRange End) front (head_words n m ++ (ends ++ take (k + 1) ns))

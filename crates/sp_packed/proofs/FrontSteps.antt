@@ -3,13 +3,13 @@ use Rattle.std.proofs.Common.{◌≡◌, ℕ, zero, suc, ◌+◌, ◌*◌, ◌<�
 use Rattle.std.specs.Io.KnownBytes.{Consumes}
 use Rattle.std.proofs.lemmas.Bool.{cases_lt}
 use Rattle.std.proofs.lemmas.List.{append-nil, ext_get_or, get_or-take, get_or_append_left, length-take-le, take_all, take-append-drop}
-use Rattle.sp_packed.specs.declared.words.Sum.{Sum}
+use Rattle.sp_packed.specs.declared.word_sums.Sum.{Sum}
 use Rattle.sp_packed.specs.declared.faults.PackedKind.{PackedKind}
 use Rattle.sp_packed.specs.declared.faults.PackedKind.TheVariants.{TooFew, Read}
 use Rattle.sp_packed.specs.Words.{words, sum_on, no_sum, sum_words, HasCome}
 use Rattle.sp_packed.specs.Packed.{head_words, arcs_words, content}
 use Rattle.sp_packed.specs.Ends.{AreFirstEnds}
-use Rattle.sp_packed.specs.Parts.{Begun}
+use Rattle.sp_packed.specs.Parts.{BegunGraph}
 use Rattle.sp_packed.specs.Faults.{IsPlace, IsWordKind}
 use Rattle.sp_packed.specs.Reading.{front_words, AreCounts, IsFrontWord, HasFront, Told}
 use Rattle.sp_packed.proofs.Beginning.{begun_front, ends_begun, parts_shape}
@@ -32,7 +32,7 @@ first_end n m some = record {
   last = λ full. absurd (omega arith);
 }
 
-pub front_begun : (top most n m : ℕ) → AreCounts top most n m → Begun top most (front_words n m)
+pub front_begun : (top most n m : ℕ) → AreCounts top most n m → BegunGraph top most (front_words n m)
 front_begun top most n m counts = ends_begun top most n m counts (0 ∷ []) (omega arith) (first_end n m counts.some)
 
 module _ (top most : ℕ) (some : 1 ≤ top) (numbers : List ℕ) (fits : (i : ℕ) → get_or numbers i 0 < 2 ^ 32) (k : ℕ) (few : k ≤ 5) (long : k ≤ length numbers)
@@ -74,15 +74,15 @@ module _ (top most : ℕ) (some : 1 ≤ top) (numbers : List ℕ) (fits : (i : �
           (n, 0, record { some = is.0; n_fits = fits 2; n_within = is.1; m_fits = omega arith; m_within = omega arith }, front_taken n 0 (λ l. refl) (λ l. absurd (omega arith))))
           (cases_lt 3 k)
 
-  pub right_begun : Begun top most (take k numbers)
+  pub right_begun : BegunGraph top most (take k numbers)
   right_begun =
       let s = some_front in
       let front = front_words s.0 s.1 in
-      subst (Begun top most) (sym s.3)
-      (begun_front top most (take k front) (drop k front) (subst (Begun top most) (sym (take-append-drop k front)) (front_begun top most s.0 s.1 s.2)))
+      subst (BegunGraph top most) (sym s.3)
+      (begun_front top most (take k front) (drop k front) (subst (BegunGraph top most) (sym (take-append-drop k front)) (front_begun top most s.0 s.1 s.2)))
 
   -- the next word of a text that begins so
-  pub front_only : k < 5 → k < length numbers → Begun top most (take (k + 1) numbers) → IsFrontWord top most k (get_or numbers k 0)
+  pub front_only : k < 5 → k < length numbers → BegunGraph top most (take (k + 1) numbers) → IsFrontWord top most k (get_or numbers k 0)
   unfolding head_words
   front_only five more b = go k five at
     where
@@ -121,7 +121,7 @@ module _ (top most : ℕ) (some : 1 ≤ top) (old new : Option (List ℕ)) (has_
   pub front_cut : (kind : PackedKind) → k ≡ length numbers → k < 5 → (failed ≡ false → kind ≡ TooFew) → (failed ≡ true → kind ≡ Read) → (failed ≡ true → has_failed ≡ true)
       → Told top most old new has_failed (record { at = 4 * k; kind = kind })
   front_cut kind all five few read broken =
-      let b = subst (Begun top most) (take_all k numbers (omega arith)) (right_begun top most some numbers fits k (omega arith) long right) in
+      let b = subst (BegunGraph top most) (take_all k numbers (omega arith)) (right_begun top most some numbers fits k (omega arith) long right) in
       told_cut top most old new has_failed numbers come.part come.took k kind failed few read (sym all) come.short b (omega arith)
       (λ is_false. come.ended (omega arith) is_false) broken
 

@@ -17,7 +17,7 @@ use Rattle.sp_packed.specs.Words.{words, sum_on, no_sum, sum_words}
 use Rattle.sp_packed.specs.Packed.{head_words, ends_of, arcs_words, content, with_sum, packed_words, IsPackable, IsWithin}
 use Rattle.sp_packed.specs.Ends.{AreRising}
 use Rattle.sp_packed.specs.Rows.{AreRows}
-use Rattle.sp_packed.specs.Parts.{AreParts, Begun}
+use Rattle.sp_packed.specs.Parts.{AreParts, BegunGraph}
 use Rattle.sp_packed.specs.Faults.{BeginsBy, Begins}
 use Rattle.sp_packed.proofs.Spelling.{length-words, words-append, words_equal, fit_both, fit_take, sum_fits}
 use Rattle.sp_packed.proofs.RowSteps.{arcs_fit}
@@ -140,7 +140,7 @@ parts_fit top most n ends arcs parts =
     fit_both (content n ends arcs) (sum_words (sum_on no_sum (content n ends arcs)))
     (content_fits n (length arcs) ends arcs parts.n_fits parts.few parts.ends_are.rising parts.rows) (sum_fits (content n ends arcs))
 
-pub begins_of : (top most : ℕ) (ws : List ℕ) (b : Begun top most ws) → BeginsBy top most (record { n = b.n; arcs = b.arcs }) (words ws)
+pub begins_of : (top most : ℕ) (ws : List ℕ) (b : BegunGraph top most ws) → BeginsBy top most (record { n = b.n; arcs = b.arcs }) (words ws)
 begins_of top most ws b = record {
   packable = packable top most b.n b.ends b.arcs b.parts;
   within = within top most b.n b.ends b.arcs b.parts;
@@ -164,7 +164,7 @@ words_front top most g ws fits b =
     (length-take-le k all long) e in
     (drop k all, split ∙ ap (λ l. l ++ drop k all) same.0)
 
-pub begun_of : (top most : ℕ) (ws : List ℕ) → ((i : ℕ) → get_or ws i 0 < 2 ^ 32) → Begins top most (words ws) → Begun top most ws
+pub begun_of : (top most : ℕ) (ws : List ℕ) → ((i : ℕ) → get_or ws i 0 < 2 ^ 32) → Begins top most (words ws) → BegunGraph top most ws
 begun_of top most ws fits (g, b) =
     let front = words_front top most g ws fits b in
     record {

@@ -13,7 +13,7 @@ use Rattle.sp_graph.specs.Order.{IsNoGreater, IsInOrder}
 use Rattle.sp_graph.specs.Lengths.{AreLengths, of_both}
 use Rattle.sp_graph.specs.declared.lengths.Lengths.{Lengths}
 use Rattle.sp_graph.proofs.LengthSums.{lengths_both}
-use Rattle.sp_packed.specs.declared.words.Sum.{Sum}
+use Rattle.sp_packed.specs.declared.word_sums.Sum.{Sum}
 use Rattle.sp_packed.specs.Words.{sum_on}
 use Rattle.sp_packed.specs.Packed.{arc_words, arcs_words}
 use Rattle.sp_packed.specs.Ends.{AreRising, AreEnds}

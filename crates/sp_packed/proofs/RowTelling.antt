@@ -5,7 +5,7 @@ use Rattle.std.proofs.KnownBytes.{Consumes-trans}
 use Rattle.std.proofs.Math.Seq.{take-append-add}
 use Rattle.std.proofs.lemmas.List.{append-nil, take_all, take_more}
 use Rattle.sp_paths.specs.declared.arc.Arc.{Arc}
-use Rattle.sp_packed.specs.declared.words.Sum.{Sum}
+use Rattle.sp_packed.specs.declared.word_sums.Sum.{Sum}
 use Rattle.sp_packed.specs.declared.faults.PackedFault.{PackedFault}
 use Rattle.sp_packed.specs.declared.faults.PackedKind.TheVariants.{OutOfRange, Memory}
 use Rattle.sp_packed.specs.declared.faults.PackedField.TheVariants.{Head, Length}
@@ -14,7 +14,7 @@ use Rattle.sp_packed.specs.Packed.{head_words, arcs_words}
 use Rattle.sp_packed.specs.Ends.{AreEnds}
 use Rattle.sp_packed.specs.Rows.{AreRows, IsNext, MayFollow, MayHead, MayStand, IsRefusedIn, IsCutAt, IsCutIn, HasRows, words_to}
 use Rattle.sp_graph.specs.Order.{IsNoGreater}
-use Rattle.sp_packed.specs.Parts.{Begun}
+use Rattle.sp_packed.specs.Parts.{BegunGraph}
 use Rattle.sp_packed.specs.Reading.{AreCounts, Told, ToldBehind}
 use Rattle.sp_packed.proofs.Spelling.{words-append, sum_on-append, fit_both}
 use Rattle.sp_packed.proofs.RowSteps.{length-arcs_words, arcs_words-append, arcs_fit}
@@ -97,7 +97,7 @@ module _ (n m want : ℕ) (ends : List ℕ) (old mid new : Option (List ℕ)) (s
         let word = words_to n (length done) in
         let whole = head_words n m ++ (ends ++ (arcs_words arcs ++ ns)) in
         let front = head_words n m ++ (ends ++ arcs_words done) in
-        let b : Begun top most front = rows_begun top most n m counts ends done are right (omega arith) in
+        let b : BegunGraph top most front = rows_begun top most n m counts ends done are right (omega arith) in
         told_other top most start new has_failed whole come.part (took start first) word (OutOfRange Head) front (head_words n m ++ (ends ++ (arcs_words done ++ (a.head ∷ []))))
         tt (all_fit counts.n_fits counts.m_fits) (omega (arith, all_long, ap length e))
         (all_taken word 0 (omega arith) ∙ ap (λ l. head_words n m ++ (ends ++ l)) (append-nil (arcs_words done)))
@@ -111,7 +111,7 @@ module _ (n m want : ℕ) (ends : List ℕ) (old mid new : Option (List ℕ)) (s
         let word = words_to n (length done) + 1 in
         let whole = head_words n m ++ (ends ++ (arcs_words arcs ++ ns)) in
         let behind = ends ++ (arcs_words done ++ (a.head ∷ [])) in
-        let b : Begun top most (head_words n m ++ behind) = head_begun top most n m counts ends done a are right lt next may in
+        let b : BegunGraph top most (head_words n m ++ behind) = head_begun top most n m counts ends done a are right lt next may in
         told_other top most start new has_failed whole come.part (took start first) word (OutOfRange Length) (head_words n m ++ behind) (head_words n m ++ (ends ++ (arcs_words done ++ (a.head ∷ a.len ∷ []))))
         tt (all_fit counts.n_fits counts.m_fits) (omega (arith, all_long, ap length e))
         (all_taken word 1 (omega arith) ∙ ap (λ l. head_words n m ++ (ends ++ (arcs_words done ++ take 1 l))) e)
@@ -130,12 +130,12 @@ module _ (n m want : ℕ) (ends : List ℕ) (old mid new : Option (List ℕ)) (s
 
     -- no more words came whole
     pub cut_behind : (k : ℕ) (e : PackedFault) → k ≡ words_to n (length done) + length others → (length others < 2) → length done < m → IsCutAt k failed e
-        → ((top most : ℕ) → AreCounts top most n m → Begun top most (head_words n m ++ (ends ++ (arcs_words done ++ others))))
+        → ((top most : ℕ) → AreCounts top most n m → BegunGraph top most (head_words n m ++ (ends ++ (arcs_words done ++ others))))
         → length ns < 2 * want → (failed ≡ true → has_failed ≡ true) → ToldBehind (head_words n m ++ ends) n m old new has_failed e
     cut_behind k e long few lt cut begun short broken top most start counts first =
         let whole = head_words n m ++ (ends ++ (arcs_words arcs ++ ns)) in
         let behind = ends ++ (arcs_words arcs ++ ns) in
-        let b : Begun top most (head_words n m ++ behind) = subst (Begun top most) (sym all_is) (begun top most counts) in
+        let b : BegunGraph top most (head_words n m ++ behind) = subst (BegunGraph top most) (sym all_is) (begun top most counts) in
         subst (λ x. Told top most start new has_failed (record { at = x; kind = e.kind })) (sym cut.at)
         (told_cut top most start new has_failed whole come.part (took start first) k e.kind failed cut.few cut.read (omega (arith, all_long, long)) come.short
         b (omega (arith, long, few, lt, n_told top most n m behind b, m_told top most n m behind b)) (λ is_false. come.ended short is_false) broken)
@@ -193,7 +193,7 @@ module _ (n m want : ℕ) (ends : List ℕ) (old mid new : Option (List ℕ)) (s
           let is : arcs_words arcs ++ ns ≡ arcs_words (arcs ++ added) ++ []
           = ap (λ l. arcs_words arcs ++ l) (sym whole) ∙ sym (arcs_words-append arcs added) ∙ sym (append-nil (arcs_words (arcs ++ added))) in
           cut_behind done [] is (words_to n (length done)) e (omega arith) (omega arith) lt cut
-          (λ top most counts. subst (λ l. Begun top most (head_words n m ++ (ends ++ l))) (sym (append-nil (arcs_words done))) (rows_begun top most n m counts ends done are right (omega (arith, lt))))
+          (λ top most counts. subst (λ l. BegunGraph top most (head_words n m ++ (ends ++ l))) (sym (append-nil (arcs_words done))) (rows_begun top most n m counts ends done are right (omega (arith, lt))))
           short broken
 
       odd : (a : Arc) × (length ns % 2 ≡ 1) × (a.head ≡ get_or ns (length ns - 1) 0) × IsNext n ends (arcs ++ added) a

@@ -15,7 +15,7 @@ use Rattle.sp_paths.specs.Rows.{row_of}
 use Rattle.sp_graph.specs.Order.{IsInOrder, in_order}
 use Rattle.sp_graph.specs.Keys.{tail_of, keys_to}
 use Rattle.sp_graph.proofs.Keys.{to_no, to_more}
-use Rattle.sp_packed.specs.declared.words.Sum.{Sum}
+use Rattle.sp_packed.specs.declared.word_sums.Sum.{Sum}
 use Rattle.sp_packed.specs.Words.{word, words, sum_on, no_sum, sum_words}
 use Rattle.sp_packed.specs.Packed.{head_words, ends_of, arc_words, arcs_words, content, packed_text}
 use Rattle.sp_packed.proofs.Spelling.{words-append, sum_on-append}

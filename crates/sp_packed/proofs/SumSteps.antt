@@ -5,14 +5,14 @@ use Rattle.std.proofs.KnownBytes.{Consumes-trans}
 use Rattle.std.proofs.Math.Seq.{take-append-add}
 use Rattle.std.proofs.lemmas.List.{append-nil, take_all, take-append-drop, get_or_append_left, get_or-take, length-take-le}
 use Rattle.sp_paths.specs.declared.arc.Arc.{Arc}
-use Rattle.sp_packed.specs.declared.words.Sum.{Sum}
+use Rattle.sp_packed.specs.declared.word_sums.Sum.{Sum}
 use Rattle.sp_packed.specs.declared.faults.PackedKind.{PackedKind}
 use Rattle.sp_packed.specs.declared.faults.PackedKind.TheVariants.{OtherSum, TooMany, TooFew, Read}
 use Rattle.sp_packed.specs.Words.{words, sum_on, no_sum, sum_words, HasCome}
 use Rattle.sp_packed.specs.Packed.{head_words, arcs_words, content, with_sum}
 use Rattle.sp_packed.specs.Ends.{AreRising, AreEnds}
 use Rattle.sp_packed.specs.Rows.{AreRows}
-use Rattle.sp_packed.specs.Parts.{Begun}
+use Rattle.sp_packed.specs.Parts.{BegunGraph}
 use Rattle.sp_packed.specs.Reading.{AreCounts, Told, ToldBehind}
 use Rattle.sp_packed.proofs.Spelling.{fit_both}
 use Rattle.sp_packed.proofs.FrontSteps.{take_same}
@@ -50,14 +50,14 @@ module _ (n m : ℕ) (ends : List ℕ) (arcs : List Arc) (are : AreEnds n m ends
     taken : take k ns ≡ take k (sum_words (sum_on no_sum (content n ends arcs)))
     taken = take_same k ns (sum_words (sum_on no_sum (content n ends arcs))) le (omega (arith, four, le, come.within)) same_here
 
-    begun : (top most : ℕ) → AreCounts top most n m → Begun top most (content n ends arcs ++ take k ns)
+    begun : (top most : ℕ) → AreCounts top most n m → BegunGraph top most (content n ends arcs ++ take k ns)
     begun top most counts =
         let sum = sum_words (sum_on no_sum (content n ends arcs)) in
         let whole = whole_begun top most n ends arcs (parts_are top most n m counts ends arcs are rows all) in
         let split : with_sum (content n ends arcs) ≡ (content n ends arcs ++ take k ns) ++ drop k sum
         = ap (λ l. content n ends arcs ++ l) (sym (take-append-drop k sum)) ∙ sym (append_assoc (content n ends arcs) (take k sum) (drop k sum))
         ∙ ap (λ l. (content n ends arcs ++ l) ++ drop k sum) (sym taken) in
-        begun_front top most (content n ends arcs ++ take k ns) (drop k sum) (subst (Begun top most) split whole)
+        begun_front top most (content n ends arcs ++ take k ns) (drop k sum) (subst (BegunGraph top most) split whole)
 
     -- the words of a text that begins with the content
     shape : (l : List ℕ) → content n ends arcs ++ l ≡ head_words n m ++ (ends ++ (arcs_words arcs ++ l))
@@ -65,9 +65,9 @@ module _ (n m : ℕ) (ends : List ℕ) (arcs : List Arc) (are : AreEnds n m ends
         append_assoc (head_words n (length arcs)) (ends ++ arcs_words arcs) l ∙ ap (λ x. head_words n (length arcs) ++ x) (append_assoc ends (arcs_words arcs) l)
         ∙ ap (λ i. head_words n i ++ (ends ++ (arcs_words arcs ++ l))) all
 
-    counted : (top most : ℕ) (l : List ℕ) (b : Begun top most (content n ends arcs ++ l)) → (b.n ≡ n) × (length b.arcs ≡ m)
+    counted : (top most : ℕ) (l : List ℕ) (b : BegunGraph top most (content n ends arcs ++ l)) → (b.n ≡ n) × (length b.arcs ≡ m)
     counted top most l b =
-        let b' : Begun top most (head_words n m ++ (ends ++ (arcs_words arcs ++ l)))
+        let b' : BegunGraph top most (head_words n m ++ (ends ++ (arcs_words arcs ++ l)))
         = record { n = b.n; ends = b.ends; arcs = b.arcs; parts = b.parts; more = b.more; is = b.is ∙ ap (λ x. x ++ b.more) (shape l) } in
         (n_told top most n m (ends ++ (arcs_words arcs ++ l)) b', m_told top most n m (ends ++ (arcs_words arcs ++ l)) b')
 
@@ -78,9 +78,9 @@ module _ (n m : ℕ) (ends : List ℕ) (arcs : List Arc) (are : AreEnds n m ends
         let whole = content n ends arcs ++ ns in
         let next = take (k + 1) ns in
         let b = begun top most counts in
-        let none : Begun top most (content n ends arcs ++ take (k + 1) ns) → ⊥
+        let none : BegunGraph top most (content n ends arcs ++ take (k + 1) ns) → ⊥
         = λ c.
-        let c' = subst (Begun top most) (shape next) c in
+        let c' = subst (BegunGraph top most) (shape next) c in
         let told = sum_told top most n m ends are arcs all next c' in
         let size : length next ≡ k + 1 = length-take-le (k + 1) ns (omega arith) in
         let head : head_words n m ++ (ends ++ arcs_words arcs) ≡ content n ends arcs = ap (λ i. head_words n i ++ (ends ++ arcs_words arcs)) (sym all) in
@@ -100,7 +100,7 @@ module _ (n m : ℕ) (ends : List ℕ) (arcs : List Arc) (are : AreEnds n m ends
     sum_cut at kind e all_of short few read broken top most start counts first =
         let word = 5 + n + 2 * m + k in
         let whole = content n ends arcs ++ ns in
-        let b : Begun top most whole = subst (λ l. Begun top most (content n ends arcs ++ l)) (take_all k ns (omega (arith, all_of))) (begun top most counts) in
+        let b : BegunGraph top most whole = subst (λ l. BegunGraph top most (content n ends arcs ++ l)) (take_all k ns (omega (arith, all_of))) (begun top most counts) in
         let at_most = counted top most ns b in
         subst (λ x. Told top most start mid has_failed (record { at = x; kind = kind })) (sym e)
         (told_cut top most start mid has_failed whole come.part (took start first) word kind failed few read (omega (arith, length-append (content n ends arcs) ns, long, all_of)) come.short

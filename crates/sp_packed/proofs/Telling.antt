@@ -9,7 +9,7 @@ use Rattle.sp_packed.specs.declared.faults.PackedKind.{PackedKind}
 use Rattle.sp_packed.specs.declared.faults.PackedKind.TheVariants.{OtherForm, OutOfRange, OtherSum, TooMany, TooFew, Memory, Read}
 use Rattle.sp_packed.specs.Words.{words}
 use Rattle.sp_packed.specs.Packed.{content, with_sum}
-use Rattle.sp_packed.specs.Parts.{AreParts, Begun}
+use Rattle.sp_packed.specs.Parts.{AreParts, BegunGraph}
 use Rattle.sp_packed.specs.Faults.{BeginsBy, Begins, IsPlace, IsWordKind, IsOther, Shows}
 use Rattle.sp_packed.specs.Reading.{Told}
 use Rattle.sp_packed.proofs.Spelling.{length-words, words-append, take_words, fit_take}
@@ -27,7 +27,7 @@ word_kind_shows top most came left has_failed at Memory word h = absurd word
 word_kind_shows top most came left has_failed at Read word h = absurd word
 
 -- how many words a text has that begins so
-pub begun_size : (top most : ℕ) (ws : List ℕ) (b : Begun top most ws) → length ws + length b.more ≡ 9 + b.n + 2 * length b.arcs
+pub begun_size : (top most : ℕ) (ws : List ℕ) (b : BegunGraph top most ws) → length ws + length b.more ≡ 9 + b.n + 2 * length b.arcs
 begun_size top most ws b =
     omega (arith, ap length b.is, length-append ws b.more, length-parts b.n b.ends b.arcs, b.parts.ends_are.size)
 
@@ -36,7 +36,7 @@ module _ (top most : ℕ) (start new : Option (List ℕ)) (has_failed : Bool) (a
   size = omega (arith, length-append (words all) part, length-words all)
 
   -- some packed text begins with the first k words
-  tell : (k : ℕ) (kind : PackedKind) (front : List ℕ) → k ≤ length all → take k all ≡ front → (b : Begun top most front) → IsPlace kind b.n (length b.arcs) k
+  tell : (k : ℕ) (kind : PackedKind) (front : List ℕ) → k ≤ length all → take k all ≡ front → (b : BegunGraph top most front) → IsPlace kind b.n (length b.arcs) k
       → Shows top most (words all ++ part) new has_failed (4 * k) kind → Told top most start new has_failed (record { at = 4 * k; kind = kind })
   tell k kind front le e b place shows = (
     words all ++ part,
@@ -58,8 +58,8 @@ module _ (top most : ℕ) (start new : Option (List ℕ)) (has_failed : Bool) (a
 
   -- the word is another
   pub told_other : (k : ℕ) (kind : PackedKind) (front next : List ℕ) → IsWordKind kind → ((i : ℕ) → get_or all i 0 < 2 ^ 32) → k < length all
-      → take k all ≡ front → take (k + 1) all ≡ next → (b : Begun top most front)
-      → (Begun top most next → ⊥) → IsPlace kind b.n (length b.arcs) k → Told top most start new has_failed (record { at = 4 * k; kind = kind })
+      → take k all ≡ front → take (k + 1) all ≡ next → (b : BegunGraph top most front)
+      → (BegunGraph top most next → ⊥) → IsPlace kind b.n (length b.arcs) k → Told top most start new has_failed (record { at = 4 * k; kind = kind })
   told_other k kind front next word fits lt e f b other place =
       tell k kind front (omega arith) e b place (word_kind_shows top most (words all ++ part) new has_failed (4 * k) kind word (
         omega (arith, size, lt),
@@ -68,14 +68,14 @@ module _ (top most : ℕ) (start new : Option (List ℕ)) (has_failed : Bool) (a
       ))
 
   -- there was no room for it
-  pub told_memory : (k : ℕ) (next : List ℕ) → k < length all → take (k + 1) all ≡ next → Begun top most next
+  pub told_memory : (k : ℕ) (next : List ℕ) → k < length all → take (k + 1) all ≡ next → BegunGraph top most next
       → Told top most start new has_failed (record { at = 4 * k; kind = Memory })
   told_memory k next lt e b =
       let long : length next ≡ k + 1 = sym (ap length e) ∙ length-take-le (k + 1) all (omega arith) in
       let less : k < 9 + b.n + 2 * length b.arcs = omega (arith, begun_size top most next b, long) in
       let split : with_sum (content b.n b.ends b.arcs) ≡ take k next ++ (drop k next ++ b.more)
       = b.is ∙ ap (λ l. l ++ b.more) (sym (take-append-drop k next)) ∙ append_assoc (take k next) (drop k next) b.more in
-      let front : Begun top most (take k next) = record { n = b.n; ends = b.ends; arcs = b.arcs; parts = b.parts; more = drop k next ++ b.more; is = split } in
+      let front : BegunGraph top most (take k next) = record { n = b.n; ends = b.ends; arcs = b.arcs; parts = b.parts; more = drop k next ++ b.more; is = split } in
       tell k Memory (take k next) (omega arith) (sym (take-take k (k + 1) all (omega arith)) ∙ ap (take k) e) front less (
         omega (arith, size, lt),
         (record { n = b.n; arcs = b.arcs }, subst (λ l. BeginsBy top most (record { n = b.n; arcs = b.arcs }) l) (sym (next_take k next lt e)) (begins_of top most next b)),
@@ -83,7 +83,7 @@ module _ (top most : ℕ) (start new : Option (List ℕ)) (has_failed : Bool) (a
 
   -- it didn't come whole
   pub told_cut : (k : ℕ) (kind : PackedKind) (failed : Bool) → (failed ≡ false → kind ≡ TooFew) → (failed ≡ true → kind ≡ Read) → length all ≡ k → length part < 4
-      → (b : Begun top most all) → k < 9 + b.n + 2 * length b.arcs → (failed ≡ false → IsAtEnd new) → (failed ≡ true → has_failed ≡ true)
+      → (b : BegunGraph top most all) → k < 9 + b.n + 2 * length b.arcs → (failed ≡ false → IsAtEnd new) → (failed ≡ true → has_failed ≡ true)
       → Told top most start new has_failed (record { at = 4 * k; kind = kind })
   told_cut k kind failed few read long short b within ended broken = ⊎_elim broke cut (cases_Bool failed)
     where

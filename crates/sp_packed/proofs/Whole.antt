@@ -7,7 +7,7 @@ use Rattle.std.proofs.lemmas.List.{append-nil}
 use Rattle.sp_paths.specs.declared.arc.Arc.{Arc}
 use Rattle.sp_paths.specs.Paths.{Graph}
 use Rattle.sp_graph.specs.Order.{in_order}
-use Rattle.sp_packed.specs.declared.words.Sum.{Sum}
+use Rattle.sp_packed.specs.declared.word_sums.Sum.{Sum}
 use Rattle.sp_packed.specs.declared.faults.PackedFault.{PackedFault}
 use Rattle.sp_packed.specs.declared.faults.PackedKind.{PackedKind}
 use Rattle.sp_packed.specs.Words.{words, sum_on, no_sum, sum_words}

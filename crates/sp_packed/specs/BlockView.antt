@@ -1,7 +1,7 @@
 -- What contracts see of a block.
 use Rattle.std.specs.Prelude.{◌≤◌, take}
 use Rattle.sp_packed.specs.Words.{Came}
-use Rattle.sp_packed.specs.declared.blocks.Block.TheInside.{Inside}
+use Rattle.sp_packed.specs.declared.blocks.WordBlock.TheInside.{Inside}
 use Rattle.sp_packed.specs.declared.blocks.TheConstants.{ROOM}
 
 -- This is what came of a text in a block.

@@ -1,7 +1,7 @@
 -- Where rows end, as a text spells it.
 use Rattle.std.specs.Prelude.{◌≡◌, ℕ, ◌+◌, ◌-◌, ◌<◌, ◌≤◌, List, ◌∷◌, length, slice_index, Option}
 use Rattle.std.specs.Io.KnownBytes.{Consumes}
-use Rattle.sp_packed.specs.declared.words.Sum.{Sum}
+use Rattle.sp_packed.specs.declared.word_sums.Sum.{Sum}
 use Rattle.sp_packed.specs.Words.{words, sum_on}
 
 -- The end is no less than the one before, and at most m.

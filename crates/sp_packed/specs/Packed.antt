@@ -1,11 +1,21 @@
 -- The packed text of a graph.
-use Rattle.std.specs.Prelude.{ℕ, ◌+◌, ◌<◌, ◌≤◌, ◌^◌, List, [], ◌∷◌, ◌++◌, length, map, All}
+use Rattle.std.specs.Prelude.{ℕ, ◌+◌, ◌<◌, ◌≤◌, ◌^◌, ◌==◌, Bool, false, List, [], ◌∷◌, ◌++◌, length, map, All, Option, Some, None}
 use Rattle.std.specs.List.{flat_map, range_with_len}
 use Rattle.sp_paths.specs.declared.arc.Arc.{Arc}
 use Rattle.sp_paths.specs.Paths.{Graph, IsGraph}
 use Rattle.sp_graph.specs.Order.{in_order}
 use Rattle.sp_graph.specs.Keys.{tail_of, keys_to}
 use Rattle.sp_packed.specs.Words.{words, sum_on, no_sum, sum_words}
+
+-- The first byte of the text is 0x89.
+abbrev pub is_packed : List ℕ → Bool
+is_packed [] = false
+is_packed (b ∷ text) = b == 0x89
+
+-- The next byte is 0x89, if there is one.
+abbrev pub shows_packed : Option ℕ → Bool
+shows_packed None = false
+shows_packed (Some b) = b == 0x89
 
 -- 0x89 S P T, then CR LF 0x1A and the number of the form, 1; the number of vertices; the number of arcs.
 unfoldable pub head_words : (n m : ℕ) → List ℕ

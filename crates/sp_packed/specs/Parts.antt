@@ -16,7 +16,7 @@ pub record AreParts (top most n : ℕ) (ends : List ℕ) (arcs : List Arc) : Typ
   pub rows : AreRows n ends arcs
 
 -- The words of such a graph begin with these.
-pub record Begun (top most : ℕ) (numbers : List ℕ) : Type 0 where
+pub record BegunGraph (top most : ℕ) (numbers : List ℕ) : Type 0 where
   pub n : ℕ
   pub ends : List ℕ
   pub arcs : List Arc

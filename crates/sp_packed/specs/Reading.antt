@@ -2,7 +2,7 @@
 use Rattle.std.specs.Prelude.{◌≡◌, ℕ, ◌<◌, ◌≤◌, ◌^◌, zero, suc, Bool, List, [], ◌∷◌, ◌++◌, length, Option}
 use Rattle.std.specs.Io.KnownBytes.{Consumes, IsAtEnd}
 use Rattle.sp_paths.specs.declared.arc.Arc.{Arc}
-use Rattle.sp_packed.specs.declared.words.Sum.{Sum}
+use Rattle.sp_packed.specs.declared.word_sums.Sum.{Sum}
 use Rattle.sp_packed.specs.declared.faults.PackedFault.{PackedFault}
 use Rattle.sp_packed.specs.Words.{words, sum_on, no_sum}
 use Rattle.sp_packed.specs.Packed.{head_words, content, with_sum}

@@ -4,7 +4,7 @@ use Rattle.std.specs.Io.KnownBytes.{Consumes}
 use Rattle.sp_paths.specs.declared.arc.Arc.{Arc}
 use Rattle.sp_paths.specs.Paths.{IsArc}
 use Rattle.sp_graph.specs.Order.{IsNoGreater, IsInOrder}
-use Rattle.sp_packed.specs.declared.words.Sum.{Sum}
+use Rattle.sp_packed.specs.declared.word_sums.Sum.{Sum}
 use Rattle.sp_packed.specs.declared.faults.PackedFault.{PackedFault}
 use Rattle.sp_packed.specs.declared.faults.PackedKind.TheVariants.{OutOfRange, TooFew, Memory, Read}
 use Rattle.sp_packed.specs.declared.faults.PackedField.TheVariants.{Head, Length}

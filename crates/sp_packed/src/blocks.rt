@@ -4,7 +4,7 @@ ghost use Rattle.std.specs.Io.KnownBytes.{Consumes, IsAtEnd};
 ghost use Rattle.sp_device.specs.Failing.{Never};
 ghost use Rattle.sp_packed.specs.Words.{sum_on, no_sum, HasCome};
 
-use crate::words::{Sum, decode};
+use crate::word_sums::{Sum, decode};
 use sp_device::Read;
 use std::marker::Model;
 
@@ -16,14 +16,14 @@ pub const BYTES: usize = 32_768;
 
 /// The words that came last, and the sum of all words that came. It allocates no memory.
 #[derive(Drop)]
-pub struct Block {
+pub struct WordBlock {
     bytes: [u8; BYTES],
     numbers: [u32; ROOM],
     len: usize,
     sum: Sum,
 }
 
-impl Model for Block {
+impl Model for WordBlock {
     ghost use Rattle.sp_packed.specs.Words.{Came};
 
     ghost Value = { Came };
@@ -77,13 +77,13 @@ fn take_words<R: Read>(
     (len, failed)
 }
 
-impl Block {
+impl WordBlock {
     /// Returns a block that has read nothing.
-    pub fn new() -> Block
+    pub fn new() -> WordBlock
         ensures numbers { result.numbers ≡ [] }
         ensures sum { result.sum ≡ no_sum }
     {
-        Block {
+        WordBlock {
             bytes: [0; BYTES],
             numbers: [0; ROOM],
             len: 0,

@@ -5,9 +5,9 @@ ghost use Rattle.sp_device.specs.Failing.{Never};
 ghost use Rattle.sp_packed.specs.Words.{words, sum_words};
 ghost use Rattle.sp_packed.specs.Reading.{ToldOfSum};
 
-use crate::blocks::{Block, fill};
+use crate::blocks::{WordBlock, fill};
 use crate::faults::{PackedFault, PackedKind};
-use crate::words::sum_numbers;
+use crate::word_sums::sum_numbers;
 use sp_device::Read;
 
 // The number of words of a sum.
@@ -33,7 +33,7 @@ fn count_same(numbers: &[u32], others: &[u32]) -> usize
 /// Reads the sum of `n` vertices and `m` arcs, and checks that nothing is left after it.
 pub fn read_sum<R: Read>(
     reader: &mut R,
-    block: &mut Block,
+    block: &mut WordBlock,
     n: u32,
     m: u32,
 ) -> Result<(), PackedFault>

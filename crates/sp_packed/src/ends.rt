@@ -4,7 +4,7 @@ ghost use Rattle.sp_device.specs.Failing.{Never};
 ghost use Rattle.sp_packed.specs.Ends.{AreEnds, AreFirstEnds, HasEnds};
 ghost use Rattle.sp_packed.specs.Reading.{front_words, ToldBehind};
 
-use crate::blocks::{Block, ROOM};
+use crate::blocks::{ROOM, WordBlock};
 use crate::faults::{PackedFault, PackedField, PackedKind};
 use sp_device::Read;
 use std::alloc::Global;
@@ -40,7 +40,7 @@ fn wrong_end(ends: &[u32], numbers: &[u32], n: u32, m: u32) -> Option<usize>
 pub fn read_ends<R: Read>(
     alloc: Global,
     reader: &mut R,
-    block: &mut Block,
+    block: &mut WordBlock,
     n: u32,
     m: u32,
 ) -> Result<Vec<u32>, PackedFault>

@@ -1,12 +1,16 @@
 //! The first words of a packed graph.
 ghost use Rattle.std.specs.Prelude.{◌≡◌, ◌≢◌, ◌<◌, ◌≤◌, ◌^◌, ℕ, length, slice_index, IfOk, IfErr, IsTrue, ◌↔◌};
 ghost use Rattle.sp_device.specs.Failing.{Never};
+ghost use Rattle.sp_packed.specs.Packed.{shows_packed};
 ghost use Rattle.sp_packed.specs.Faults.{IsPlace, IsWordKind};
 ghost use Rattle.sp_packed.specs.Reading.{IsFrontWord, HasFront, Told};
 
-use crate::blocks::Block;
+use crate::blocks::WordBlock;
 use crate::faults::{PackedFault, PackedField, PackedKind};
 use sp_device::Read;
+
+// The first byte of a packed text. No text of lines that spells a graph begins with it.
+const MARK: u8 = 0x89;
 
 /// The first word: the bytes 0x89 S P T.
 pub const FIRST: u32 = 0x5450_5389;
@@ -16,6 +20,16 @@ pub const SECOND: u32 = 0x011A_0A0D;
 
 // The number of words before the end of row 1.
 const FRONT: usize = 5;
+
+/// Returns whether a text that begins with this byte is packed. An empty text isn't.
+pub fn is_packed(next: Option<u8>) -> bool
+    ensures { result ≡ shows_packed next }
+{
+    match next {
+        Some(first) => first == MARK,
+        None => false,
+    }
+}
 
 // Returns whether this may be the word that `place` words precede.
 fn is_front_word(place: usize, number: u32, top: u32, most_arcs: u32) -> bool
@@ -63,7 +77,7 @@ fn front_kind(place: usize) -> PackedKind
 /// Reads the numbers of vertices and of arcs, and the 0 where row 0 ends.
 pub fn read_front<R: Read>(
     reader: &mut R,
-    block: &mut Block,
+    block: &mut WordBlock,
     top: u32,
     most_arcs: u32,
 ) -> Result<(u32, u32), PackedFault>

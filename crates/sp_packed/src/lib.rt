@@ -9,10 +9,11 @@ mod front;
 mod laws;
 mod reading;
 mod rows;
-mod words;
+mod word_sums;
 mod writing;
 
 pub use faults::{PackedFault, PackedField, PackedKind};
+pub use front::{FIRST, SECOND, is_packed};
 pub use laws::{
     a_faulty_text_is_none, a_graph_has_one_text, a_text_has_its_length, a_text_has_one_graph,
     no_text_begins_another,

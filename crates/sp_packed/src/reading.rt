@@ -8,7 +8,7 @@ ghost use Rattle.sp_packed.specs.File.{file_graph, PackedFileRead};
 ghost use Rattle.sp_packed.specs.Faults.{PackedRead};
 ghost use Rattle.sp_packed.specs.Reading.{HasParts, Told};
 
-use crate::blocks::Block;
+use crate::blocks::WordBlock;
 use crate::ending::read_sum;
 use crate::ends::read_ends;
 use crate::faults::{PackedFault, PackedKind};
@@ -44,7 +44,7 @@ fn read_parts<R: Read>(
         (R.left reader.old) (R.left reader.new) (R.has_failed reader.new)) }
     ensures never { R.failing reader.old ≡ Never → IfErr result (λ e. e.kind ≢ PackedKind.Read) }
 {
-    let mut block = Block::new();
+    let mut block = WordBlock::new();
     let (n, m) = match read_front(reader, &mut block, top, most_arcs) {
         Ok(front) => front,
         Err(fault) => return Err(fault),

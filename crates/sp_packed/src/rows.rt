@@ -9,7 +9,7 @@ ghost use Rattle.sp_packed.specs.Ends.{AreEnds};
 ghost use Rattle.sp_packed.specs.Rows.{IsInRow, AreRows, IsNextRow, IsNext, MayFollow, MayHead, MayStand, IsArcRefused, IsRefusedIn, IsCutIn, HasRows, words_to, arc_key, IsLastKey};
 ghost use Rattle.sp_packed.specs.Reading.{ToldBehind};
 
-use crate::blocks::{Block, ROOM};
+use crate::blocks::{ROOM, WordBlock};
 use crate::faults::{PackedFault, PackedField, PackedKind};
 use sp_device::Read;
 use sp_graph::Lengths;
@@ -269,7 +269,7 @@ fn cut_fault(
 pub fn read_rows<R: Read>(
     alloc: Global,
     reader: &mut R,
-    block: &mut Block,
+    block: &mut WordBlock,
     n: u32,
     ends: &[u32],
 ) -> Result<RowArcs, PackedFault>

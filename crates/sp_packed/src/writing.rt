@@ -5,7 +5,7 @@ ghost use Rattle.sp_packed.specs.Words.{words, sum_on};
 ghost use Rattle.sp_packed.specs.Packed.{ends_of, arcs_words, packed_text};
 
 use crate::front::{FIRST, SECOND};
-use crate::words::{Sum, sum_numbers};
+use crate::word_sums::{Sum, sum_numbers};
 use sp_device::{Printer, Write, WriteFault, finish, print_text};
 use sp_graph::Graph;
 use sp_paths::Arc;

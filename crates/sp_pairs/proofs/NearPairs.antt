@@ -10,12 +10,12 @@ use Rattle.sp_paths.specs.Rows.{row_of}
 use Rattle.sp_paths.proofs.Only.{tree_pair_least}
 use Rattle.sp_paths.proofs.RowSteps.{in_row, rows_hold_arcs}
 use Rattle.sp_paths.proofs.Walks.{walk_none, least_same}
-use Rattle.sp_turned.specs.Turned.{IsTurned}
-use Rattle.sp_turned.proofs.TurnedArcs.{turned_back}
-use Rattle.sp_turned.proofs.Walks.{turned_has, turned_least}
+use Rattle.sp_network.specs.Turned.{IsTurned}
+use Rattle.sp_network.proofs.TurnedArcs.{turned_back}
+use Rattle.sp_network.proofs.TurnedWalks.{turned_has, turned_least}
 use Rattle.sp_answer.specs.declared.pair.PairAnswer.{PairAnswer as Told}
 use Rattle.sp_answer.specs.declared.pair.PairAnswer.TheVariants.{Found}
-use Rattle.sp_forest.specs.Run.{IsAnswerFor, AreAnswersFor}
+use Rattle.sp_answer.specs.Run.{IsAnswerFor, AreAnswersFor}
 use Rattle.sp_pairs.specs.Near.{IsFirstArc, IsNext, ComesNoLater, IsTurnedAnswer}
 
 -- ## What a search tells

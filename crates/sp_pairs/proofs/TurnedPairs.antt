@@ -13,13 +13,13 @@ use Rattle.sp_paths.specs.Bags.{AreSame}
 use Rattle.sp_paths.proofs.SameArcs.{same_arcs_same_answers}
 use Rattle.sp_answer.specs.declared.pair.PairAnswer.{PairAnswer as Told}
 use Rattle.sp_answer.specs.declared.pair.PairAnswer.TheVariants as told
-use Rattle.sp_turned.specs.Turned.{turned_arc, turned, IsTurned}
+use Rattle.sp_network.specs.Turned.{turned_arc, turned, IsTurned}
 use Rattle.sp_dimacs.specs.declared.graphs.GrFile.{GrFile}
 use Rattle.sp_dimacs.specs.Graph.{IsNetworkUpTo, graph_of}
 use Rattle.sp_network.specs.declared.directions.Direction.TheVariants.{Towards}
 use Rattle.sp_network.specs.Network.{directed}
 use Rattle.sp_jobs.proofs.Files.{same_graph}
-use Rattle.sp_pairs.specs.declared.asking.Slot.{Slot}
+use Rattle.sp_pairs.specs.declared.asking.PairState.{PairState}
 use Rattle.sp_pairs.specs.Slots.{IsClosed, slot_of, AreHeld, pair_at}
 use Rattle.sp_pairs.specs.Near.{IsTurnedAnswer, IsClosedFor}
 use Rattle.sp_pairs.proofs.SlotSteps.{told_held}
@@ -35,31 +35,31 @@ pub closed_for : (P : ℕ) (g : Graph) (s t : ℕ) (told : Told) → IsTurnedAns
 closed_for P g s t told is = record { closed = told_closed told; held = λ h turned. told_held P h (s, t) told (is h turned) }
 
 module _ (P : ℕ) (g : Graph) where
-  closed_push : (pairs : List (ℕ × ℕ)) (slots : List Slot) (pair : ℕ × ℕ) (slot : Slot) → AllZip (IsClosedFor P g) pairs slots → IsClosedFor P g pair slot → AllZip (IsClosedFor P g) (pairs ++ pair ∷ []) (slots ++ slot ∷ [])
+  closed_push : (pairs : List (ℕ × ℕ)) (slots : List PairState) (pair : ℕ × ℕ) (slot : PairState) → AllZip (IsClosedFor P g) pairs slots → IsClosedFor P g pair slot → AllZip (IsClosedFor P g) (pairs ++ pair ∷ []) (slots ++ slot ∷ [])
   closed_push [] [] pair slot are is = (is, tt)
   closed_push [] (s ∷ slots) pair slot are is = absurd are
   closed_push (p ∷ pairs) [] pair slot are is = absurd are
   closed_push (p ∷ pairs) (s ∷ slots) pair slot are is = (are.0, closed_push pairs slots pair slot are.1 is)
 
   -- one pair more
-  pub closed_more : (pairs : List (ℕ × ℕ)) (i : ℕ) (slots : List Slot) (slot : Slot) → i < length pairs → AllZip (IsClosedFor P g) (take i pairs) slots → IsClosedFor P g (pair_at pairs i) slot → AllZip (IsClosedFor P g) (take (i + 1) pairs) (slots ++ slot ∷ [])
+  pub closed_more : (pairs : List (ℕ × ℕ)) (i : ℕ) (slots : List PairState) (slot : PairState) → i < length pairs → AllZip (IsClosedFor P g) (take i pairs) slots → IsClosedFor P g (pair_at pairs i) slot → AllZip (IsClosedFor P g) (take (i + 1) pairs) (slots ++ slot ∷ [])
   closed_more pairs i slots slot low are is = subst (λ (first : List (ℕ × ℕ)). AllZip (IsClosedFor P g) first (slots ++ slot ∷ [])) (sym (take_more pairs i (0, 0) low)) (closed_push (take i pairs) slots (pair_at pairs i) slot are is)
 
-  closed_at : (pairs : List (ℕ × ℕ)) (slots : List Slot) (i : ℕ) (d : Slot) → AllZip (IsClosedFor P g) pairs slots → i < length slots → IsClosedFor P g (pair_at pairs i) (get_or slots i d)
+  closed_at : (pairs : List (ℕ × ℕ)) (slots : List PairState) (i : ℕ) (d : PairState) → AllZip (IsClosedFor P g) pairs slots → i < length slots → IsClosedFor P g (pair_at pairs i) (get_or slots i d)
   closed_at [] [] i d are low = absurd (omega (arith, low))
   closed_at [] (s ∷ slots) i d are low = absurd are
   closed_at (p ∷ pairs) [] i d are low = absurd are
   closed_at (p ∷ pairs) (s ∷ slots) zero d are low = are.0
   closed_at (p ∷ pairs) (s ∷ slots) (suc i) d are low = closed_at pairs slots i d are.1 (omega (arith, low))
 
-  pub all_closed : (pairs : List (ℕ × ℕ)) (slots : List Slot) → AllZip (IsClosedFor P g) pairs slots → All IsClosed slots
+  pub all_closed : (pairs : List (ℕ × ℕ)) (slots : List PairState) → AllZip (IsClosedFor P g) pairs slots → All IsClosed slots
   all_closed pairs slots are k d low = (closed_at pairs slots k d are low).closed
 
-  pub all_held : (h : Graph) → IsTurned g h → (pairs : List (ℕ × ℕ)) (slots : List Slot) → AllZip (IsClosedFor P g) pairs slots → AreHeld P h pairs slots
+  pub all_held : (h : Graph) → IsTurned g h → (pairs : List (ℕ × ℕ)) (slots : List PairState) → AllZip (IsClosedFor P g) pairs slots → AreHeld P h pairs slots
   all_held h is pairs slots are = record { size = AllZip-long (IsClosedFor P g) pairs slots are; held = λ i d low. (closed_at pairs slots i d are low).held h is }
 
 -- What is held of pairs in a graph is held in one with the same arcs.
-pub held_same : (P : ℕ) (g h : Graph) (pairs : List (ℕ × ℕ)) (slots : List Slot) → AreSame g h → AreHeld P g pairs slots → AreHeld P h pairs slots
+pub held_same : (P : ℕ) (g h : Graph) (pairs : List (ℕ × ℕ)) (slots : List PairState) → AreSame g h → AreHeld P g pairs slots → AreHeld P h pairs slots
 held_same P g h pairs slots same are = record {
   size = are.size;
   held = λ i d low closed. (same_arcs_same_answers g h same).pair (pair_at pairs i).0 (pair_at pairs i).1 (max_dist P) _ (are.held i d low closed);

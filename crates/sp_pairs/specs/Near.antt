@@ -2,10 +2,10 @@
 use Rattle.std.specs.Prelude.{◌≡◌, ◌+◌, ◌≤◌, ℕ, List, Option, Some, None, Contains}
 use Rattle.sp_paths.specs.declared.arc.Arc.{Arc}
 use Rattle.sp_paths.specs.Paths.{Graph, IsLeast}
-use Rattle.sp_turned.specs.Turned.{IsTurned}
+use Rattle.sp_network.specs.Turned.{IsTurned}
 use Rattle.sp_answer.specs.declared.pair.PairAnswer.{PairAnswer as Told}
-use Rattle.sp_forest.specs.Run.{IsAnswerFor}
-use Rattle.sp_pairs.specs.declared.asking.Slot.{Slot}
+use Rattle.sp_answer.specs.Run.{IsAnswerFor}
+use Rattle.sp_pairs.specs.declared.asking.PairState.{PairState}
 use Rattle.sp_pairs.specs.Slots.{IsClosed, IsHeld}
 
 -- ## Where a walk goes first
@@ -31,6 +31,6 @@ abbrev pub IsTurnedAnswer : Graph → (s t max : ℕ) → Told → Type 0
 IsTurnedAnswer g s t max told = (h : Graph) → IsTurned g h → IsAnswerFor h s t max told
 
 -- The answer for a pair is known, and is the pair's in each graph whose arcs are those of this one turned round.
-pub record IsClosedFor (P : ℕ) (g : Graph) (pair : ℕ × ℕ) (slot : Slot) : Type 0 where
+pub record IsClosedFor (P : ℕ) (g : Graph) (pair : ℕ × ℕ) (slot : PairState) : Type 0 where
   pub closed : IsClosed slot
   pub held : (h : Graph) → IsTurned g h → IsHeld P h pair slot

@@ -10,41 +10,41 @@ use Rattle.sp_paths.specs.Paths.{Graph, IsVertex, PairAnswer}
 use Rattle.sp_paths.specs.Paths.{Found as FoundPair, TooFar as FarVertex, NoWalk as NoWay}
 use Rattle.sp_answer.specs.declared.pair.PairAnswer.{PairAnswer as Told}
 use Rattle.sp_answer.specs.declared.pair.PairAnswer.TheVariants as told
-use Rattle.sp_pairs.specs.declared.asking.Slot.{Slot}
-use Rattle.sp_pairs.specs.declared.asking.Slot.TheVariants.{Open, Found, TooFar, NoWalk}
+use Rattle.sp_pairs.specs.declared.asking.PairState.{PairState}
+use Rattle.sp_pairs.specs.declared.asking.PairState.TheVariants.{Open, Found, TooFar, NoWalk}
 use Rattle.sp_jobs.specs.PairAnswers.{IsAnswerToPair, pairs_text, IsPairsSummary}
 
 -- ## One slot
 
 -- no answer is known
-abbrev pub IsOpen : Slot → Type 0
+abbrev pub IsOpen : PairState → Type 0
 IsOpen (Open next) = Unit {0}
 IsOpen (Found p d) = ⊥
 IsOpen (TooFar v) = ⊥
 IsOpen NoWalk = ⊥
 
 -- an answer is known
-abbrev pub IsClosed : Slot → Type 0
+abbrev pub IsClosed : PairState → Type 0
 IsClosed (Open next) = ⊥
 IsClosed (Found p d) = Unit {0}
 IsClosed (TooFar v) = Unit {0}
 IsClosed NoWalk = Unit {0}
 
 -- the answer that is known; of an open slot there is none, and that no walk leads there stands for it
-abbrev pub answer_in : Slot → PairAnswer
+abbrev pub answer_in : PairState → PairAnswer
 answer_in (Open next) = NoWay
 answer_in (Found p d) = FoundPair d p
 answer_in (TooFar v) = FarVertex v
 answer_in NoWalk = NoWay
 
 -- the slot of an answer
-abbrev pub slot_of : Told → Slot
+abbrev pub slot_of : Told → PairState
 slot_of (told.Found d p) = Found p d
 slot_of (told.TooFar v) = TooFar v
 slot_of told.NoWalk = NoWalk
 
 -- where an answer is known, it is the pair's
-abbrev pub IsHeld : (P : ℕ) → Graph → ℕ × ℕ → Slot → Type 0
+abbrev pub IsHeld : (P : ℕ) → Graph → ℕ × ℕ → PairState → Type 0
 IsHeld P g pair slot = IsClosed slot → IsAnswerToPair P g pair (answer_in slot)
 
 -- ## All slots
@@ -58,25 +58,25 @@ abbrev pub IsPairOf : (n : ℕ) → ℕ × ℕ → Type 0
 IsPairOf n pair = IsVertex n pair.0 × IsVertex n pair.1
 
 -- Each pair has a slot, and no answer is known.
-pub record AreAllOpen (pairs : List (ℕ × ℕ)) (slots : List Slot) : Type 0 where
+pub record AreAllOpen (pairs : List (ℕ × ℕ)) (slots : List PairState) : Type 0 where
   pub size : length slots ≡ length pairs
   pub each : All IsOpen slots
 
 -- Each pair has a slot, and the answers that are known are the pairs'.
-pub record AreHeld (P : ℕ) (g : Graph) (pairs : List (ℕ × ℕ)) (slots : List Slot) : Type 0 where
+pub record AreHeld (P : ℕ) (g : Graph) (pairs : List (ℕ × ℕ)) (slots : List PairState) : Type 0 where
   pub size : length slots ≡ length pairs
-  pub held : (i : ℕ) (slot : Slot) → i < length slots → IsHeld P g (pair_at pairs i) (slice_index_or slots i slot)
+  pub held : (i : ℕ) (slot : PairState) → i < length slots → IsHeld P g (pair_at pairs i) (slice_index_or slots i slot)
 
 -- The answer at this place is known.
-abbrev pub IsClosedAt : (place : ℕ) → List Slot → Type 0
-IsClosedAt place slots = (slot : Slot) → IsClosed (slice_index_or slots place slot)
+abbrev pub IsClosedAt : (place : ℕ) → List PairState → Type 0
+IsClosedAt place slots = (slot : PairState) → IsClosed (slice_index_or slots place slot)
 
 -- Of the first pairs the answers are known.
-abbrev pub AreFirstClosed : (count : ℕ) → List Slot → Type 0
+abbrev pub AreFirstClosed : (count : ℕ) → List PairState → Type 0
 AreFirstClosed count slots = (i : ℕ) → i < count → i < length slots → IsClosedAt i slots
 
 -- What was known stays known.
-pub record StayClosed (old new : List Slot) : Type 0 where
+pub record StayClosed (old new : List PairState) : Type 0 where
   pub size : length new ≡ length old
   pub stay : (i : ℕ) → i < length old → IsClosedAt i old → IsClosedAt i new
 

@@ -1,15 +1,14 @@
 //! The answers for pairs, found by one search or run from each source.
 ghost use Rattle.std.specs.Prelude.{◌≡◌, ◌+◌, ◌<◌, false, length, All, IfOk, IfSome};
 ghost use Rattle.sp_word.specs.Word.{max_dist};
-ghost use Rattle.sp_forest.specs.Run.{AreAnswersFor};
+ghost use Rattle.sp_answer.specs.Run.{AreAnswersFor};
 ghost use Rattle.sp_jobs.specs.Ready.{IsReady};
 ghost use Rattle.sp_pairs.specs.Slots.{IsClosed, slot_of, IsPairOf, AreAllOpen, pair_at, AreHeld, AreFirstClosed, StayClosed, IsPlaceBehind, AreTargetsOf, IsFor, IsClosedAt};
 
-use sp_answer::PairAnswer;
-use sp_engine::Engine;
+use sp_answer::{Engine, PairAnswer};
 use sp_graph::Graph;
 use sp_jobs::{Job, Listener, Progress};
-use sp_serial::{Rooms, answers_near};
+use sp_serial::{SearchPool, answers_near};
 use std::alloc::{AllocError, Global};
 
 // For at most this many pairs, each searches for the next pair of its source, because a table of all vertices would
@@ -18,7 +17,7 @@ const FEW: usize = 64;
 
 /// What is known of a pair, in 16 bytes. The fields are in memory in the order in which they are declared.
 #[derive(Clone, Copy)]
-pub(crate) enum Slot {
+pub(crate) enum PairState {
     /// The answer isn't known yet. The next pair of the same source is at this place. If there is none, it is the
     /// number of pairs.
     Open { next: usize },
@@ -31,23 +30,23 @@ pub(crate) enum Slot {
 }
 
 /// Returns the slot that holds this answer.
-pub(crate) fn slot_of(answer: PairAnswer) -> Slot
+pub(crate) fn slot_of(answer: PairAnswer) -> PairState
     ensures { result ≡ slot_of answer }
 {
     match answer {
-        PairAnswer::Found { dist, pred } => Slot::Found { pred, dist },
-        PairAnswer::TooFar(vertex) => Slot::TooFar(vertex),
-        PairAnswer::NoWalk => Slot::NoWalk,
+        PairAnswer::Found { dist, pred } => PairState::Found { pred, dist },
+        PairAnswer::TooFar(vertex) => PairState::TooFar(vertex),
+        PairAnswer::NoWalk => PairState::NoWalk,
     }
 }
 
 // Returns whether the answer isn't known yet.
-fn is_open(slot: &Slot) -> bool
+fn is_open(slot: &PairState) -> bool
     ensures { result ≡ false → IsClosed slot.now }
 {
     match slot {
-        Slot::Open { .. } => true,
-        Slot::Found { .. } | Slot::TooFar(_) | Slot::NoWalk => false,
+        PairState::Open { .. } => true,
+        PairState::Found { .. } | PairState::TooFar(_) | PairState::NoWalk => false,
     }
 }
 
@@ -65,12 +64,12 @@ fn place_behind(pairs: &[(u32, u32)], place: usize) -> usize
 }
 
 // Makes an open slot for each of a few pairs, without a table.
-fn open_few(alloc: Global, pairs: &[(u32, u32)]) -> Result<Vec<Slot>, AllocError>
+fn open_few(alloc: Global, pairs: &[(u32, u32)]) -> Result<Vec<PairState>, AllocError>
     ensures { IfOk result (λ slots. AreAllOpen pairs.now slots.items) }
 {
     let mut slots = Vec::new(alloc);
     for place in 0..pairs.len() {
-        slots.push(Slot::Open {
+        slots.push(PairState::Open {
             next: place_behind(pairs, place),
         })?;
     }
@@ -79,7 +78,7 @@ fn open_few(alloc: Global, pairs: &[(u32, u32)]) -> Result<Vec<Slot>, AllocError
 
 // Makes an open slot for each pair. It goes from the last pair to the first, with a table that says for each vertex
 // where the next pair with this source is.
-fn open_slots(alloc: Global, n: u32, pairs: &[(u32, u32)]) -> Result<Vec<Slot>, AllocError>
+fn open_slots(alloc: Global, n: u32, pairs: &[(u32, u32)]) -> Result<Vec<PairState>, AllocError>
     requires { All (IsPairOf n) pairs.now }
     ensures { IfOk result (λ slots. AreAllOpen pairs.now slots.items) }
 {
@@ -88,11 +87,11 @@ fn open_slots(alloc: Global, n: u32, pairs: &[(u32, u32)]) -> Result<Vec<Slot>, 
         return open_few(alloc, pairs);
     }
     let mut next_of_source = vec![in alloc; count; n as usize]?;
-    let mut slots = vec![in alloc; Slot::Open { next: count }; count]?;
+    let mut slots = vec![in alloc; PairState::Open { next: count }; count]?;
     for done in 0..count {
         let place = count - 1 - done;
         let source = pairs[place].0 as usize - 1;
-        slots[place] = Slot::Open {
+        slots[place] = PairState::Open {
             next: next_of_source[source],
         };
         next_of_source[source] = place;
@@ -101,12 +100,12 @@ fn open_slots(alloc: Global, n: u32, pairs: &[(u32, u32)]) -> Result<Vec<Slot>, 
 }
 
 // Returns the place of the next pair with the same source, if there is one.
-fn next_place(pairs: &[(u32, u32)], slots: &[Slot], place: usize) -> Option<usize>
+fn next_place(pairs: &[(u32, u32)], slots: &[PairState], place: usize) -> Option<usize>
     requires here { place < length pairs.now }
     requires size { length slots.now ≡ length pairs.now }
     ensures { IfSome result (IsPlaceBehind place pairs.now) }
 {
-    let Slot::Open { next } = slots[place] else {
+    let PairState::Open { next } = slots[place] else {
         return None;
     };
     if next > place && next < pairs.len() && pairs[next].0 == pairs[place].0 {
@@ -120,7 +119,7 @@ fn targets_from(
     alloc: Global,
     graph: &Graph,
     pairs: &[(u32, u32)],
-    slots: &[Slot],
+    slots: &[PairState],
     place: usize,
 ) -> Result<Vec<u32>, AllocError>
     requires here { place < length pairs.now }
@@ -152,7 +151,7 @@ fn keep_answer<const P: u32>(
     graph: &Graph,
     known: Known,
     pairs: &[(u32, u32)],
-    slots: &mut Vec<Slot>,
+    slots: &mut Vec<PairState>,
     place: usize,
     k: usize,
 )
@@ -178,7 +177,7 @@ fn keep_answers<const P: u32>(
     graph: &Graph,
     known: Known,
     pairs: &[(u32, u32)],
-    slots: &mut Vec<Slot>,
+    slots: &mut Vec<PairState>,
     place: usize,
 )
     requires known { AreAnswersFor graph.now known.source (max_dist P)
@@ -208,7 +207,7 @@ pub(crate) fn find_answers<const P: u32, E: Engine<P>, L: Listener>(
     job: &Job<E>,
     listener: &L,
     pairs: &[(u32, u32)],
-) -> Result<Vec<Slot>, AllocError>
+) -> Result<Vec<PairState>, AllocError>
     requires engine { E.can_run job.now.engine }
     requires ready { IsReady P job.now.graph.now }
     requires pairs { All (IsPairOf job.now.graph.now.n) pairs.now }
@@ -216,7 +215,7 @@ pub(crate) fn find_answers<const P: u32, E: Engine<P>, L: Listener>(
     ensures closed { IfOk result (λ slots. All IsClosed slots.items) }
 {
     let mut slots = open_slots(alloc, job.graph.n(), pairs)?;
-    let rooms = Rooms::new(alloc, 1);
+    let pool = SearchPool::new(alloc, 1);
     for place in 0..pairs.len() {
         if !is_open(&slots[place]) {
             continue;
@@ -227,7 +226,7 @@ pub(crate) fn find_answers<const P: u32, E: Engine<P>, L: Listener>(
         });
         let targets = targets_from(alloc, job.graph, pairs, &slots, place)?;
         let source = pairs[place].0;
-        let answers = answers_near(&job.engine, &rooms, alloc, job.graph, source, &targets)?;
+        let answers = answers_near(&job.engine, &pool, alloc, job.graph, source, &targets)?;
         let known = Known {
             source,
             targets: &targets,

@@ -8,14 +8,18 @@ ghost use Rattle.sp_pairs.specs.Near.{IsFirstArc, IsNext, ComesNoLater, IsTurned
 use sp_answer::PairAnswer;
 use sp_graph::Graph;
 use sp_paths::Arc;
-use sp_serial::Room;
+use sp_serial::SearchBuffers;
 use std::alloc::AllocError;
 
 // The approximate number of vertices that a search for a pair may relax. That many take less than a millisecond.
 const MOST: usize = 1 << 13;
 
 // Returns the least length of a walk from one vertex to another, if the other is found near the first.
-fn distance<const P: u32>(room: &mut Room<P>, from: u32, to: u32) -> Result<Option<u64>, AllocError>
+fn distance<const P: u32>(
+    room: &mut SearchBuffers<P>,
+    from: u32,
+    to: u32,
+) -> Result<Option<u64>, AllocError>
     requires from { IsVertex room.old.n from }
     requires to { IsVertex room.old.n to }
     ensures graph { room.new ≡ room.old }
@@ -34,7 +38,7 @@ fn distance<const P: u32>(room: &mut Room<P>, from: u32, to: u32) -> Result<Opti
 // Returns whether a walk with the given length to a vertex may begin with this arc. The length is the least one from
 // the arc's tail. There is no result if the vertex isn't found near the arc's head.
 fn is_first_arc<const P: u32>(
-    room: &mut Room<P>,
+    room: &mut SearchBuffers<P>,
     arc: &Arc,
     to: u32,
     dist: u64,
@@ -64,7 +68,7 @@ fn comes_no_later(vertex: Option<u32>, other: u32) -> bool
 // Of the heads of a row, returns the smallest one to which a shortest walk to a vertex, of this length, can go first.
 // There is none if the vertex isn't found near one of them.
 fn next_of<const P: u32>(
-    room: &mut Room<P>,
+    room: &mut SearchBuffers<P>,
     row: &[Arc],
     to: u32,
     dist: u64,
@@ -90,9 +94,9 @@ fn next_of<const P: u32>(
 }
 
 /// Returns the answer for a target of a source in the turned form of this graph, if the source is found near the target
-/// here. The room belongs to this graph.
+/// here. The buffers belong to this graph.
 pub(crate) fn near_answer<const P: u32>(
-    room: &mut Room<P>,
+    room: &mut SearchBuffers<P>,
     graph: &Graph,
     source: u32,
     target: u32,

@@ -7,29 +7,29 @@ ghost use Rattle.sp_files.specs.PairText.{pair_text};
 ghost use Rattle.sp_jobs.specs.PairAnswers.{pairs_text, is_too_far};
 ghost use Rattle.sp_pairs.specs.Slots.{IsClosed, answer_in, ArePairsWritten};
 
-use crate::asking::Slot;
+use crate::asking::PairState;
 use sp_answer::PairAnswer;
 use sp_device::{Printer, Write, finish};
 use sp_files::send_pair;
 use sp_jobs::{BatchError, Summary};
 
 // Returns the known answer.
-fn answer_in(slot: &Slot) -> PairAnswer
+fn answer_in(slot: &PairState) -> PairAnswer
     requires { IsClosed slot.now }
     ensures { answer_of result ≡ answer_in slot.now }
 {
     match slot {
-        Slot::Open { .. } => unreachable!(),
-        Slot::Found { pred, dist } => PairAnswer::Found {
+        PairState::Open { .. } => unreachable!(),
+        PairState::Found { pred, dist } => PairAnswer::Found {
             dist: *dist,
             pred: *pred,
         },
-        Slot::TooFar(vertex) => PairAnswer::TooFar(*vertex),
-        Slot::NoWalk => PairAnswer::NoWalk,
+        PairState::TooFar(vertex) => PairAnswer::TooFar(*vertex),
+        PairState::NoWalk => PairAnswer::NoWalk,
     }
 }
 
-fn send_line<W: Write>(out: &mut W, printer: &mut Printer, pair: (u32, u32), slot: &Slot)
+fn send_line<W: Write>(out: &mut W, printer: &mut Printer, pair: (u32, u32), slot: &PairState)
     requires { IsClosed slot.now }
     ensures { Sends W.Write (pair_text pair (answer_in slot.now))
         out.old printer.old out.new printer.new }
@@ -37,7 +37,12 @@ fn send_line<W: Write>(out: &mut W, printer: &mut Printer, pair: (u32, u32), slo
     send_pair(out, printer, pair, answer_in(slot));
 }
 
-fn send_lines<W: Write>(out: &mut W, printer: &mut Printer, pairs: &[(u32, u32)], slots: &[Slot])
+fn send_lines<W: Write>(
+    out: &mut W,
+    printer: &mut Printer,
+    pairs: &[(u32, u32)],
+    slots: &[PairState],
+)
     requires size { length slots.now ≡ length pairs.now }
     requires closed { All IsClosed slots.now }
     ensures { Sends W.Write (pairs_text pairs.now (map answer_in slots.now))
@@ -48,12 +53,12 @@ fn send_lines<W: Write>(out: &mut W, printer: &mut Printer, pairs: &[(u32, u32)]
     }
 }
 
-fn count_far(slots: &[Slot]) -> u64
+fn count_far(slots: &[PairState]) -> u64
     ensures { result ≡ count_by is_too_far (map answer_in slots.now) }
 {
     let mut count = 0;
     for slot in slots {
-        if let Slot::TooFar(_) = slot {
+        if let PairState::TooFar(_) = slot {
             count += 1;
         }
     }
@@ -65,7 +70,7 @@ fn count_far(slots: &[Slot]) -> u64
 /// It allocates no memory. If the writer fails, a prefix of the lines has been written.
 pub(crate) fn write_pairs<W: Write>(
     pairs: &[(u32, u32)],
-    slots: &[Slot],
+    slots: &[PairState],
     out: &mut W,
 ) -> Result<Summary, BatchError>
     requires size { length slots.now ≡ length pairs.now }

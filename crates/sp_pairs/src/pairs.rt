@@ -11,10 +11,11 @@ ghost use Rattle.sp_pairs.specs.Pairs.{IsPairUpTo, IsFirstPairAbove, ArePairsDon
 
 use crate::pair_lines::write_pairs;
 use crate::towards::find_slots;
+use sp_device::Peeked;
 use sp_dimacs::{PairsFile, Read, Write, read_pairs};
 use sp_jobs::{BatchError, BucketWidth, Listener, Nobody, Role, Settings, Summary};
-use sp_network::{Direction, Network, Peeked};
-use sp_run::RunCrew;
+use sp_network::{Direction, Network};
+use sp_run::RunsTeams;
 use sp_word::Workers;
 use std::alloc::Global;
 
@@ -36,7 +37,7 @@ fn first_pair_above(pairs: &[(u32, u32)], n: u32) -> Option<(u32, Role)>
 
 // Tests the pairs, finds all their answers, and then writes them.
 #[tactic(auto, using(crate::proofs::SamePairs::pairs_not_early))]
-fn answer_pairs<const P: u32, R: RunCrew<P>, W: Write, L: Listener>(
+fn answer_pairs<const P: u32, R: RunsTeams<P>, W: Write, L: Listener>(
     rt: &R,
     alloc: Global,
     file: Network,
@@ -44,7 +45,7 @@ fn answer_pairs<const P: u32, R: RunCrew<P>, W: Write, L: Listener>(
     settings: &Settings<P, L>,
     out: &mut W,
 ) -> Result<Summary, BatchError>
-    requires crew { R.is_shared }
+    requires handle { R.is_shared }
     requires layout { is_layout P ≡ true }
     requires network { IsNetworkUpTo P (most_of settings.now.direction) file }
     requires pairs { ArePairsWithin P list.now }
@@ -69,8 +70,8 @@ fn answer_pairs<const P: u32, R: RunCrew<P>, W: Write, L: Listener>(
 /// written.
 ///
 /// It makes one run from each source, wherever its pairs are in the list. The run goes no farther than the farthest of
-/// their targets. The crew is as in `run_batch_told`.
-pub fn run_pairs<const P: u32, R: RunCrew<P>, G: Read, S: Read, W: Write>(
+/// their targets. The handle is as in `run_batch_told`.
+pub fn run_pairs<const P: u32, R: RunsTeams<P>, G: Read, S: Read, W: Write>(
     rt: &R,
     alloc: Global,
     gr: &mut Peeked<G>,
@@ -79,7 +80,7 @@ pub fn run_pairs<const P: u32, R: RunCrew<P>, G: Read, S: Read, W: Write>(
     width: BucketWidth<P>,
     workers: Workers,
 ) -> Result<Summary, BatchError>
-    requires crew { R.is_shared }
+    requires handle { R.is_shared }
     requires layout { is_layout P ≡ true }
     ensures exact { (gr_text list_text : List ℕ)
         → ⟦<Peeked<G> as Read>⟧.left gr.old ≡ Some gr_text → S.left pairs.old ≡ Some list_text
@@ -101,7 +102,7 @@ pub fn run_pairs<const P: u32, R: RunCrew<P>, G: Read, S: Read, W: Write>(
 
 /// Does what `run_pairs` does, and reports the progress to a listener: when the graph has been built, and before each
 /// run from a source.
-pub fn run_pairs_told<const P: u32, R: RunCrew<P>, G: Read, S: Read, W: Write, L: Listener>(
+pub fn run_pairs_told<const P: u32, R: RunsTeams<P>, G: Read, S: Read, W: Write, L: Listener>(
     rt: &R,
     alloc: Global,
     gr: &mut Peeked<G>,
@@ -109,7 +110,7 @@ pub fn run_pairs_told<const P: u32, R: RunCrew<P>, G: Read, S: Read, W: Write, L
     out: &mut W,
     settings: &Settings<P, L>,
 ) -> Result<Summary, BatchError>
-    requires crew { R.is_shared }
+    requires handle { R.is_shared }
     requires layout { is_layout P ≡ true }
     ensures exact { (gr_text list_text : List ℕ)
         → ⟦<Peeked<G> as Read>⟧.left gr.old ≡ Some gr_text → S.left pairs.old ≡ Some list_text

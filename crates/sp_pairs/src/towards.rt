@@ -9,15 +9,15 @@ ghost use Rattle.sp_network.specs.Network.{directed, most_of};
 ghost use Rattle.sp_pairs.specs.Slots.{IsClosed, IsPairOf, AreHeld};
 ghost use Rattle.sp_pairs.specs.Near.{IsClosedFor};
 
-use crate::asking::{Slot, find_answers, slot_of};
+use crate::asking::{PairState, find_answers, slot_of};
 use crate::near::near_answer;
 use sp_dimacs::GrFile;
 use sp_graph::Graph;
 use sp_jobs::{Listener, Progress, Settings};
 use sp_network::{Direction, Network};
-use sp_run::RunCrew;
-use sp_serial::Room;
-use sp_word::{Crew, Meter};
+use sp_run::RunsTeams;
+use sp_serial::SearchBuffers;
+use sp_word::{Meter, ThreadsAndSleep};
 use std::alloc::{AllocError, Global};
 
 // For more pairs the arcs are turned at once. If one of the pairs were far, the searches for the others would be
@@ -29,14 +29,14 @@ fn near_slots<const P: u32>(
     alloc: Global,
     graph: &Graph,
     pairs: &[(u32, u32)],
-) -> Result<Option<Vec<Slot>>, AllocError>
+) -> Result<Option<Vec<PairState>>, AllocError>
     requires layout { is_layout P ≡ true }
     requires n { graph.now.n ≤ max_pred P }
     requires pairs { All (IsPairOf graph.now.n) pairs.now }
     ensures { IfOk result (λ found. IfSome found
         (λ slots. AllZip (IsClosedFor P graph.now) pairs.now slots.items)) }
 {
-    let mut room = Room::<P>::new(alloc, graph)?;
+    let mut room = SearchBuffers::<P>::new(alloc, graph)?;
     let mut slots = Vec::new(alloc);
     for (source, target) in pairs {
         let Some(answer) = near_answer(&mut room, graph, *source, *target)? else {
@@ -49,13 +49,13 @@ fn near_slots<const P: u32>(
 
 // Finds what is known of pairs in a network whose arcs have to be turned round, in the network as it is, if the pairs
 // are few and their ends are near each other. The network is returned with the arcs that it had, in any order.
-fn near_in<const P: u32, R: Crew, L: Listener>(
+fn near_in<const P: u32, R: ThreadsAndSleep, L: Listener>(
     rt: &R,
     alloc: Global,
     file: Network,
     pairs: &[(u32, u32)],
     settings: &Settings<P, L>,
-) -> Result<(Network, Option<Vec<Slot>>), AllocError>
+) -> Result<(Network, Option<Vec<PairState>>), AllocError>
     requires layout { is_layout P ≡ true }
     requires network { IsNetworkUpTo P (most_of settings.now.direction) file }
     requires pairs { All (IsPairOf file.n) pairs.now }
@@ -88,14 +88,14 @@ fn near_in<const P: u32, R: Crew, L: Listener>(
 }
 
 /// Finds the answers for pairs of a network with its arcs in the requested direction, in the order of the pairs.
-pub(crate) fn find_slots<const P: u32, R: RunCrew<P>, L: Listener>(
+pub(crate) fn find_slots<const P: u32, R: RunsTeams<P>, L: Listener>(
     rt: &R,
     alloc: Global,
     file: Network,
     pairs: &[(u32, u32)],
     settings: &Settings<P, L>,
-) -> Result<Vec<Slot>, AllocError>
-    requires crew { R.is_shared }
+) -> Result<Vec<PairState>, AllocError>
+    requires handle { R.is_shared }
     requires layout { is_layout P ≡ true }
     requires network { IsNetworkUpTo P (most_of settings.now.direction) file }
     requires pairs { All (IsPairOf file.n) pairs.now }

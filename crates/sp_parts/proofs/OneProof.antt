@@ -8,7 +8,7 @@ use Rattle.sp_text.specs.declared.formats.Ranges.{Ranges}
 use Rattle.sp_text.specs.declared.formats.Top.{Top}
 use Rattle.sp_text.specs.declared.formats.Field.{Field}
 use Rattle.sp_text.specs.Formats.{Format, LineForm}
-use Rattle.sp_text.specs.Text.{Item, Reading, Comment, Bad, IsProblem, IsItem}
+use Rattle.sp_text.specs.Text.{ItemLine, Reading, Comment, Bad, IsProblem, IsItem}
 use Rattle.sp_text.specs.Plain.{IsPlainItem, IsPlainReading, IsPlain}
 use Rattle.sp_parts.specs.declared.parts.Part.{Part}
 use Rattle.sp_parts.specs.Parts.{IsPartOf, AreParts}
@@ -22,7 +22,7 @@ field_set = Prim.hlevel (props, top_set)
 form_set : IsSet LineForm
 form_set = Prim.hlevel (props, top_set, field_set)
 
-plain_item : (format : Format) (ranges : Ranges) (ps : List ℕ) (item : Item) → IsProp (IsPlainItem format ranges ps item)
+plain_item : (format : Format) (ranges : Ranges) (ps : List ℕ) (item : ItemLine) → IsProp (IsPlainItem format ranges ps item)
 plain_item format ranges ps item = Prim.hlevel (props, form_set)
 
 plain_reading : (format : Format) (ranges : Ranges) (ps : List ℕ) (reading : Reading) → IsProp (IsPlainReading format ranges ps reading)
@@ -38,12 +38,12 @@ all_plain : (format : Format) (ranges : Ranges) (ps : List ℕ) (all : List (Lis
 all_plain format ranges ps [] = Unit-prop
 all_plain format ranges ps (line ∷ all) = ×_prop (plain format ranges ps line) (all_plain format ranges ps all)
 
-one_part : {K : Type 0} (format : Format) (ranges : Ranges) (Kept : K → List Item → Type 0) (ps text : List ℕ) (part : Part K) → ((keep : K) (items : List Item) → IsProp (Kept keep items)) → IsProp (IsPartOf format ranges Kept ps text part)
+one_part : {K : Type 0} (format : Format) (ranges : Ranges) (Kept : K → List ItemLine → Type 0) (ps text : List ℕ) (part : Part K) → ((keep : K) (items : List ItemLine) → IsProp (Kept keep items)) → IsProp (IsPartOf format ranges Kept ps text part)
 one_part format ranges Kept ps text part once = Prim.hlevel (props, all_plain, once)
 
-parts : {K : Type 0} (format : Format) (ranges : Ranges) (Kept : K → List Item → Type 0) (problem : Option (List ℕ)) (text : List ℕ) (parts : List (Part K)) → ((keep : K) (items : List Item) → IsProp (Kept keep items)) → IsProp (AreParts format ranges Kept problem text parts)
+parts : {K : Type 0} (format : Format) (ranges : Ranges) (Kept : K → List ItemLine → Type 0) (problem : Option (List ℕ)) (text : List ℕ) (parts : List (Part K)) → ((keep : K) (items : List ItemLine) → IsProp (Kept keep items)) → IsProp (AreParts format ranges Kept problem text parts)
 parts format ranges Kept problem text all once = Prim.hlevel (props, all_plain, once)
 
 -- That they were read is known where it is known that there is a proof.
-pub parts_along : {K : Type 0} (format : Format) (ranges : Ranges) (Kept : K → List Item → Type 0) (problem : Option (List ℕ)) (text : List ℕ) (all : List (Part K)) → ((keep : K) (items : List Item) → IsProp (Kept keep items)) → ∥ AreParts format ranges Kept problem text all ∥₁ → AreParts format ranges Kept problem text all
+pub parts_along : {K : Type 0} (format : Format) (ranges : Ranges) (Kept : K → List ItemLine → Type 0) (problem : Option (List ℕ)) (text : List ℕ) (all : List (Part K)) → ((keep : K) (items : List ItemLine) → IsProp (Kept keep items)) → ∥ AreParts format ranges Kept problem text all ∥₁ → AreParts format ranges Kept problem text all
 parts_along format ranges Kept problem text all once read = ∥∥₁_elim read (parts format ranges Kept problem text all once) (λ h. h)

@@ -224,7 +224,7 @@ pub stands_to_failure : {R K V W : Type 0} {keeper : Keeper K V} (Spelled : List
 stands_to_failure {keeper} Spelled r source problem begun device reader later came taken e h all failed fails =
     read_to_failure (judge keeper.format keeper.ranges) HasTakenLines Spelled r begun device (h.alone ++ h.front) reader later e (all_taken r source problem begun device reader came taken h all) h.behind failed fails
 
--- 5. The course of it.
+-- 5. The progress of it.
 
 pub goes_begun : {R K V : Type 0} {keeper : Keeper K V} (r : Device R) (source problem : Option (List ℕ)) (device : R) (reader : Feeder (Collector K V keeper)) (came taken : ℕ) (received : Received)
     → HasComeTo r source device came → received ≡ More → (r.failing device ≡ Never → r.has_failed device ≡ false) → Goes r source problem device reader came taken device reader came taken received

@@ -10,7 +10,7 @@ use Rattle.sp_text.specs.Lines.{ended, rest}
 use Rattle.sp_text.specs.Meaning.{HasNoLf, IsFirstLine}
 use Rattle.sp_text.specs.Formats.{Format}
 use Rattle.sp_text.specs.First.{Judge}
-use Rattle.sp_text.specs.Text.{Item, problem_of, items_of}
+use Rattle.sp_text.specs.Text.{ItemLine, problem_of, items_of}
 use Rattle.sp_text.specs.Feeding.{Fed, Refused, Finished}
 use Rattle.sp_text.specs.Whole.{ReadOn}
 use Rattle.sp_device.specs.declared.devices.Read.{Ghosts as Device}
@@ -27,14 +27,14 @@ pub line_ended : (block line : List ℕ) → HasNoLf line → rest block ≡ [] 
 line_ended block line none whole = ended_at_lf (block ++ line) ∙ rw (ended_at_run block line none, rest_at_run block line none, whole) refl
 
 -- What was read of a text from a place on: some whole lines, behind which these bytes stand.
-pub record IsRead {K : Type 0} (format : Format) (ranges : Ranges) (Kept : K → List Item → Type 0) (ps text : List ℕ) (from : ℕ) (more : List ℕ) (keep : K) (lines : ℕ) : Type 0 where
+pub record IsRead {K : Type 0} (format : Format) (ranges : Ranges) (Kept : K → List ItemLine → Type 0) (ps text : List ℕ) (from : ℕ) (more : List ℕ) (keep : K) (lines : ℕ) : Type 0 where
   pub block : List ℕ
   pub parts : drop from text ≡ block ++ more
   pub whole : rest block ≡ []
   pub read : AreRead format ranges Kept ps (ended block) keep lines
   pub fewer : lines ≤ length block
 
-pub read_on : {K : Type 0} (format : Format) (ranges : Ranges) (Kept : K → List Item → Type 0) (ps text : List ℕ) (from : ℕ) (bytes more line : List ℕ) (old new : K) (lines : ℕ)
+pub read_on : {K : Type 0} (format : Format) (ranges : Ranges) (Kept : K → List ItemLine → Type 0) (ps text : List ℕ) (from : ℕ) (bytes more line : List ℕ) (old new : K) (lines : ℕ)
     → IsRead format ranges Kept ps text from bytes old lines → IsFirstLine bytes line more → IsPlain format ranges ps line → ((all : List (List ℕ)) → Kept old (items_of format all) → Kept new (items_of format (all ++ line ∷ [])))
     → IsRead format ranges Kept ps text from more new (lines + 1)
 read_on format ranges Kept ps text from bytes more line old new lines h first plain keeps = record {
@@ -46,11 +46,11 @@ read_on format ranges Kept ps text from bytes more line old new lines h first pl
 }
 
 -- There are no more lines than bytes.
-pub read_few : {K : Type 0} (format : Format) (ranges : Ranges) (Kept : K → List Item → Type 0) (ps text : List ℕ) (from : ℕ) (more : List ℕ) (keep : K) (lines : ℕ) → IsRead format ranges Kept ps text from more keep lines → lines + length more ≤ length text
+pub read_few : {K : Type 0} (format : Format) (ranges : Ranges) (Kept : K → List ItemLine → Type 0) (ps text : List ℕ) (from : ℕ) (more : List ℕ) (keep : K) (lines : ℕ) → IsRead format ranges Kept ps text from more keep lines → lines + length more ≤ length text
 read_few format ranges Kept ps text from more keep lines h =
     omega (arith, h.fewer, length-drop from text, ap length h.parts, length-append h.block more)
 
-pub read_nothing : {K : Type 0} (format : Format) (ranges : Ranges) (Kept : K → List Item → Type 0) (ps text : List ℕ) (from : ℕ) (more : List ℕ) (keep : K) → more ≡ drop from text → Kept keep [] → IsRead format ranges Kept ps text from more keep 0
+pub read_nothing : {K : Type 0} (format : Format) (ranges : Ranges) (Kept : K → List ItemLine → Type 0) (ps text : List ℕ) (from : ℕ) (more : List ℕ) (keep : K) → more ≡ drop from text → Kept keep [] → IsRead format ranges Kept ps text from more keep 0
 unfolding ended rest items_of
 read_nothing format ranges Kept ps text from more keep is kept = record {
   block = [];
@@ -66,7 +66,7 @@ part_block text block more from within parts =
     let size : (length text - length more) - from ≡ length block = omega arith in
     ap (λ (n : ℕ). take n (drop from text)) size ∙ (ap (take (length block)) parts ∙ take-append_seam block more)
 
-pub part_made : {K : Type 0} (format : Format) (ranges : Ranges) (Kept : K → List Item → Type 0) (ps text : List ℕ) (from : ℕ) (more : List ℕ) (keep : K) (lines : ℕ) → from ≤ length text → IsRead format ranges Kept ps text from more keep lines
+pub part_made : {K : Type 0} (format : Format) (ranges : Ranges) (Kept : K → List ItemLine → Type 0) (ps text : List ℕ) (from : ℕ) (more : List ℕ) (keep : K) (lines : ℕ) → from ≤ length text → IsRead format ranges Kept ps text from more keep lines
     → IsPartOf format ranges Kept ps text (record { keep = keep; lines = lines; from = from; to = length text - length more })
 part_made format ranges Kept ps text from more keep lines within h =
     let is = part_block text h.block more from within h.parts in

@@ -8,14 +8,14 @@ use Rattle.sp_text.specs.declared.feeding.Feeder.{Feeder}
 use Rattle.sp_text.specs.declared.faults.DimacsError.{DimacsError}
 use Rattle.sp_text.specs.Formats.{Format}
 use Rattle.sp_text.specs.Lines.{ended}
-use Rattle.sp_text.specs.Text.{Item, judge, problem_of}
+use Rattle.sp_text.specs.Text.{ItemLine, judge, problem_of}
 use Rattle.sp_text.specs.Collectors.{HasTakenLines}
 use Rattle.sp_text.specs.Feeding.{IsBehind, Fed}
 use Rattle.sp_text.specs.Plain.{IsBlock, HasProblem}
 use Rattle.sp_parts.specs.declared.parts.Part.{Part}
 
 -- The part was read from whole plain lines of the text, from one position to another.
-pub record IsPartOf {K : Type 0} (format : Format) (ranges : Ranges) (Kept : K → List Item → Type 0) (ps text : List ℕ) (part : Part K) : Type 0 where
+pub record IsPartOf {K : Type 0} (format : Format) (ranges : Ranges) (Kept : K → List ItemLine → Type 0) (ps text : List ℕ) (part : Part K) : Type 0 where
   pub order : part.from ≤ part.to
   pub within : part.to ≤ length text
   pub block : IsBlock format ranges Kept ps (slice_range text part.from part.to) part.keep part.lines
@@ -31,7 +31,7 @@ TakesParts {keeper} text parts old result new =
     → IsBehind (judge keeper.format keeper.ranges) HasTakenLines front old → Fed (judge keeper.format keeper.ranges) HasTakenLines (ended front) (front ++ text) result new
 
 -- The parts were read from the text, after a problem line with these numbers, if there was one.
-abbrev pub AreParts : {K : Type 0} → Format → Ranges → (K → List Item → Type 0) → (problem : Option (List ℕ)) → (text : List ℕ) → List (Part K) → Type 0
+abbrev pub AreParts : {K : Type 0} → Format → Ranges → (K → List ItemLine → Type 0) → (problem : Option (List ℕ)) → (text : List ℕ) → List (Part K) → Type 0
 AreParts format ranges Kept problem text parts = (ps : List ℕ) → problem ≡ Some ps → All (IsPartOf format ranges Kept ps text) parts
 
 -- These bytes are at this position of the text, if the text is known.

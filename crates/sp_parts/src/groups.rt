@@ -7,18 +7,18 @@ ghost use Rattle.sp_text.specs.Collecting.{SpelledBy};
 ghost use Rattle.sp_text.specs.Feeding.{IsBehind};
 ghost use Rattle.sp_text.specs.Whole.{AllRead, IsSpelled, ReadOn, NeverRead};
 
-use crate::crew::{Plan, Sizes, count_threads};
 use crate::leading::read_together;
 use crate::pieces::KeepAcross;
+use crate::plan::{Plan, Sizes, count_threads};
 use crate::receiving::{Group, Received};
 use sp_device::Read;
 use sp_text::{Collector, DimacsError, Feeder, LineTaker, PIECE, read_items};
-use sp_word::{Crew, Workers};
+use sp_word::{ThreadsAndSleep, Workers};
 use std::alloc::Global;
 use std::marker::Brand;
 
 // Reads a text alone, until enough came for others to join.
-fn read_alone<K: KeepAcross + Send + Sync, H: Crew, R: Read>(
+fn read_alone<K: KeepAcross + Send + Sync, H: ThreadsAndSleep, R: Read>(
     rt: &H,
     alloc: Global,
     device: &mut R,
@@ -55,7 +55,7 @@ fn read_alone<K: KeepAcross + Send + Sync, H: Crew, R: Read>(
 ///
 /// There are no more threads than processors. Only this thread reads the device. If there is no memory for what other threads
 /// would read, this thread reads that itself.
-pub fn read_items_by<K: KeepAcross + Send + Sync, H: Crew, R: Read>(
+pub fn read_items_by<K: KeepAcross + Send + Sync, H: ThreadsAndSleep, R: Read>(
     rt: &H,
     alloc: Global,
     device: &mut R,

@@ -10,51 +10,51 @@ ghost use Rattle.sp_parts.specs.Groups.{HasCome, HasComeTo};
 ghost use Rattle.sp_parts.specs.Held.{AreHeld};
 ghost use Rattle.sp_parts.specs.Stands.{Goes, Stands};
 
-use crate::course::Course;
-use crate::crew::Plan;
+use crate::buffer_pool::{BufferPool, PendingPiece};
 use crate::pieces::{KeepAcross, Origin};
+use crate::plan::Plan;
+use crate::progress::ReadingProgress;
 use crate::receiving::Received;
 use crate::sharing::{ROUNDS, Shared};
-use crate::stock::{Flight, Stock};
 use sp_device::Read;
 use sp_text::{Collector, DimacsError, Feeder, LineTaker};
-use sp_word::Crew;
+use sp_word::ThreadsAndSleep;
 use std::alloc::{AllocError, Global};
 use std::collections::VecDeque;
 use std::thread::{join_mut, map_indices};
 
 // Reads the device to its end and takes all pieces in order, including those that it reads itself. None means that it gave up
 // before the end.
-fn read_through<K: KeepAcross, O: Origin, H: Crew, R: Read>(
+fn read_through<K: KeepAcross, O: Origin, H: ThreadsAndSleep, R: Read>(
     rt: &H,
     device: &mut R,
-    course: &mut Course<K>,
-    stock: &mut Stock<O>,
+    progress: &mut ReadingProgress<K>,
+    pool: &mut BufferPool<O>,
     shared: &Shared<K, O>,
 ) -> Option<Result<K::Value, DimacsError>>
-    requires came { HasComeTo R.Read O.text device.old course.old.came.bytes }
-    requires held { AreHeld O.text course.old.taken.bytes
-        course.old.flying.items course.old.came.bytes }
-    requires more { course.old.received ≡ Received.More }
+    requires came { HasComeTo R.Read O.text device.old progress.old.came.bytes }
+    requires held { AreHeld O.text progress.old.taken.bytes
+        progress.old.flying.items progress.old.came.bytes }
+    requires more { progress.old.received ≡ Received.More }
     requires going { R.failing device.old ≡ Never → R.has_failed device.old ≡ false }
     ensures read { IfSome result (λ read. (begun : R)
         → Stands R.Read O.text O.problem begun device.old
-        course.old.reader course.old.came.bytes course.old.taken.bytes
+        progress.old.reader progress.old.came.bytes progress.old.taken.bytes
         → ReadOn (judge K.format K.ranges) (SpelledBy K.format K.Spelled)
         R.Read begun read device.new) }
     ensures left { IfNone result
         (Goes R.Read O.text O.problem device.old
-        course.old.reader course.old.came.bytes course.old.taken.bytes
-        device.new course.new.reader course.new.came.bytes course.new.taken.bytes
-        course.new.received
-        × AreHeld O.text course.new.taken.bytes
-        course.new.flying.items course.new.came.bytes) }
+        progress.old.reader progress.old.came.bytes progress.old.taken.bytes
+        device.new progress.new.reader progress.new.came.bytes progress.new.taken.bytes
+        progress.new.received
+        × AreHeld O.text progress.new.taken.bytes
+        progress.new.flying.items progress.new.came.bytes) }
     ensures never { R.failing device.old ≡ Never → R.has_failed device.new ≡ false }
 {
     let mut turn: u32 = 0;
     for _ in 0..ROUNDS {
-        let has_received = course.receive_more(device, stock, shared);
-        let has_taken = match course.take_next(stock, shared) {
+        let has_received = progress.receive_more(device, pool, shared);
+        let has_taken = match progress.take_next(pool, shared) {
             Ok(has_taken) => has_taken,
             Err(e) => return Some(Err(e)),
         };
@@ -62,10 +62,10 @@ fn read_through<K: KeepAcross, O: Origin, H: Crew, R: Read>(
             turn = 0;
             continue;
         }
-        if course.taken.bytes == course.came.bytes {
-            match course.received {
-                Received::Over => return Some(course.reader.finish()),
-                Received::Failed => return Some(Err(course.reader.fail())),
+        if progress.taken.bytes == progress.came.bytes {
+            match progress.received {
+                Received::Over => return Some(progress.reader.finish()),
+                Received::Failed => return Some(Err(progress.reader.fail())),
                 Received::More => {}
             }
         }
@@ -76,39 +76,39 @@ fn read_through<K: KeepAcross, O: Origin, H: Crew, R: Read>(
 }
 
 // Reads the device to its end in this way, and then signals to the other threads that all is read.
-fn lead<K: KeepAcross, O: Origin, H: Crew, R: Read>(
+fn lead<K: KeepAcross, O: Origin, H: ThreadsAndSleep, R: Read>(
     rt: &H,
     device: &mut R,
-    course: &mut Course<K>,
-    stock: &mut Stock<O>,
+    progress: &mut ReadingProgress<K>,
+    pool: &mut BufferPool<O>,
     shared: &Shared<K, O>,
 ) -> Option<Result<K::Value, DimacsError>>
-    requires came { HasComeTo R.Read O.text device.old course.old.came.bytes }
-    requires held { AreHeld O.text course.old.taken.bytes
-        course.old.flying.items course.old.came.bytes }
-    requires more { course.old.received ≡ Received.More }
+    requires came { HasComeTo R.Read O.text device.old progress.old.came.bytes }
+    requires held { AreHeld O.text progress.old.taken.bytes
+        progress.old.flying.items progress.old.came.bytes }
+    requires more { progress.old.received ≡ Received.More }
     requires going { R.failing device.old ≡ Never → R.has_failed device.old ≡ false }
     ensures read { IfSome result (λ read. (begun : R)
         → Stands R.Read O.text O.problem begun device.old
-        course.old.reader course.old.came.bytes course.old.taken.bytes
+        progress.old.reader progress.old.came.bytes progress.old.taken.bytes
         → ReadOn (judge K.format K.ranges) (SpelledBy K.format K.Spelled)
         R.Read begun read device.new) }
     ensures left { IfNone result
         (Goes R.Read O.text O.problem device.old
-        course.old.reader course.old.came.bytes course.old.taken.bytes
-        device.new course.new.reader course.new.came.bytes course.new.taken.bytes
-        course.new.received
-        × AreHeld O.text course.new.taken.bytes
-        course.new.flying.items course.new.came.bytes) }
+        progress.old.reader progress.old.came.bytes progress.old.taken.bytes
+        device.new progress.new.reader progress.new.came.bytes progress.new.taken.bytes
+        progress.new.received
+        × AreHeld O.text progress.new.taken.bytes
+        progress.new.flying.items progress.new.came.bytes) }
     ensures never { R.failing device.old ≡ Never → R.has_failed device.new ≡ false }
 {
-    let result = read_through(rt, device, course, stock, shared);
+    let result = read_through(rt, device, progress, pool, shared);
     shared.signals.end();
     result
 }
 
 // Reads pieces with this many threads, including this one, until all is read.
-fn serve_by<K: KeepAcross + Send + Sync, O: Origin + Send + Sync, H: Crew>(
+fn serve_by<K: KeepAcross + Send + Sync, O: Origin + Send + Sync, H: ThreadsAndSleep>(
     rt: &H,
     shared: &Shared<K, O>,
     threads: usize,
@@ -118,79 +118,79 @@ fn serve_by<K: KeepAcross + Send + Sync, O: Origin + Send + Sync, H: Crew>(
 }
 
 // Reads the device to its end, while other threads read pieces. None means that it gave up before the end.
-fn read_beside<K: KeepAcross + Send + Sync, O: Origin + Send + Sync, H: Crew, R: Read>(
+fn read_beside<K: KeepAcross + Send + Sync, O: Origin + Send + Sync, H: ThreadsAndSleep, R: Read>(
     rt: &H,
     device: &mut R,
-    course: &mut Course<K>,
-    stock: &mut Stock<O>,
+    progress: &mut ReadingProgress<K>,
+    pool: &mut BufferPool<O>,
     shared: &Shared<K, O>,
 ) -> Option<Result<K::Value, DimacsError>>
-    requires came { HasComeTo R.Read O.text device.old course.old.came.bytes }
-    requires held { AreHeld O.text course.old.taken.bytes
-        course.old.flying.items course.old.came.bytes }
-    requires more { course.old.received ≡ Received.More }
+    requires came { HasComeTo R.Read O.text device.old progress.old.came.bytes }
+    requires held { AreHeld O.text progress.old.taken.bytes
+        progress.old.flying.items progress.old.came.bytes }
+    requires more { progress.old.received ≡ Received.More }
     requires going { R.failing device.old ≡ Never → R.has_failed device.old ≡ false }
     ensures read { IfSome result (λ read. (begun : R)
         → Stands R.Read O.text O.problem begun device.old
-        course.old.reader course.old.came.bytes course.old.taken.bytes
+        progress.old.reader progress.old.came.bytes progress.old.taken.bytes
         → ReadOn (judge K.format K.ranges) (SpelledBy K.format K.Spelled)
         R.Read begun read device.new) }
     ensures left { IfNone result
         (Goes R.Read O.text O.problem device.old
-        course.old.reader course.old.came.bytes course.old.taken.bytes
-        device.new course.new.reader course.new.came.bytes course.new.taken.bytes
-        course.new.received
-        × AreHeld O.text course.new.taken.bytes
-        course.new.flying.items course.new.came.bytes) }
+        progress.old.reader progress.old.came.bytes progress.old.taken.bytes
+        device.new progress.new.reader progress.new.came.bytes progress.new.taken.bytes
+        progress.new.received
+        × AreHeld O.text progress.new.taken.bytes
+        progress.new.flying.items progress.new.came.bytes) }
     ensures never { R.failing device.old ≡ Never → R.has_failed device.new ≡ false }
 {
     let others = shared.plan.others();
     let mut serve = || serve_by(rt, shared, others);
     let mut read = || -> Option<Result<K::Value, DimacsError>>
-        requires { (HasComeTo R.Read O.text device.now course.now.came.bytes)
-            × (AreHeld O.text course.now.taken.bytes
-            course.now.flying.items course.now.came.bytes)
-            × (course.now.received ≡ Received.More)
+        requires { (HasComeTo R.Read O.text device.now progress.now.came.bytes)
+            × (AreHeld O.text progress.now.taken.bytes
+            progress.now.flying.items progress.now.came.bytes)
+            × (progress.now.received ≡ Received.More)
             × (R.failing device.now ≡ Never → R.has_failed device.now ≡ false) }
         ensures read { IfSome result (λ read. (begun : R)
             → Stands R.Read O.text O.problem begun device.entry.now
-            course.entry.now.reader course.entry.now.came.bytes course.entry.now.taken.bytes
+            progress.entry.now.reader progress.entry.now.came.bytes progress.entry.now.taken.bytes
             → ReadOn (judge K.format K.ranges) (SpelledBy K.format K.Spelled)
             R.Read begun read device.exit.now) }
         ensures left { IfNone result
             (Goes R.Read O.text O.problem device.entry.now
-            course.entry.now.reader course.entry.now.came.bytes course.entry.now.taken.bytes
-            device.exit.now course.exit.now.reader course.exit.now.came.bytes
-            course.exit.now.taken.bytes course.exit.now.received
-            × AreHeld O.text course.exit.now.taken.bytes
-            course.exit.now.flying.items course.exit.now.came.bytes) }
+            progress.entry.now.reader progress.entry.now.came.bytes progress.entry.now.taken.bytes
+            device.exit.now progress.exit.now.reader progress.exit.now.came.bytes
+            progress.exit.now.taken.bytes progress.exit.now.received
+            × AreHeld O.text progress.exit.now.taken.bytes
+            progress.exit.now.flying.items progress.exit.now.came.bytes) }
         ensures never { R.failing device.entry.now ≡ Never
             → R.has_failed device.exit.now ≡ false }
-    { lead(rt, device, course, stock, shared) };
+    { lead(rt, device, progress, pool, shared) };
     join_mut(rt, &mut serve, &mut read).1
 }
 
 // Takes the rest of a device's text, by this thread alone.
 fn take_rest<K: KeepAcross, O: Origin, R: Read>(
     device: &R,
-    course: &mut Course<K>,
-    stock: &mut Stock<O>,
+    progress: &mut ReadingProgress<K>,
+    pool: &mut BufferPool<O>,
 ) -> Result<(), DimacsError>
-    requires { AreHeld O.text course.old.taken.bytes
-        course.old.flying.items course.old.came.bytes }
+    requires { AreHeld O.text progress.old.taken.bytes
+        progress.old.flying.items progress.old.came.bytes }
     ensures taken { OnOk result ((begun : R) → Stands R.Read O.text O.problem begun device.now
-        course.old.reader course.old.came.bytes course.old.taken.bytes
+        progress.old.reader progress.old.came.bytes progress.old.taken.bytes
         → (text : List ℕ) × HasCome R.Read (R.left begun) device.now text
         × IsBehind (judge K.format K.ranges) ⟦<Collector<K> as LineTaker>⟧.After
-        text course.new.reader) }
+        text progress.new.reader) }
     ensures refused { IfErr result (λ e. (begun : R)
         → Stands R.Read O.text O.problem begun device.now
-        course.old.reader course.old.came.bytes course.old.taken.bytes
+        progress.old.reader progress.old.came.bytes progress.old.taken.bytes
         → ReadOn (judge K.format K.ranges) (SpelledBy K.format K.Spelled)
         R.Read begun (Err e) device.now) }
 {
     loop {
-        let has_taken = match course.take_front(stock, None) {
+        let has_taken = match progress.take_front(pool, None) {
             Ok(has_taken) => has_taken,
             Err(e) => return Err(e),
         };
@@ -206,23 +206,24 @@ fn begin<K: KeepAcross, O: Origin>(
     alloc: Global,
     reader: &Feeder<Collector<K>>,
     plan: &Plan,
-) -> Result<(Shared<K, O>, Stock<O>, VecDeque<Flight>), AllocError>
+) -> Result<(Shared<K, O>, BufferPool<O>, VecDeque<PendingPiece>), AllocError>
     requires { (ps : List ℕ) → O.problem ≡ Some ps → HasProblem reader.now ps }
     ensures { IfOk result (λ begun. begun.2.items ≡ []) }
 {
-    let stock = Stock::new(alloc, plan)?;
-    let shared = Shared::new(alloc, reader, plan, stock.stealer()?)?;
-    Ok((
-        shared,
-        stock,
-        VecDeque::with_capacity(alloc, plan.pieces())?,
-    ))
+    let pool = BufferPool::new(alloc, plan)?;
+    let shared = Shared::new(alloc, reader, plan, pool.stealer()?)?;
+    Ok((shared, pool, VecDeque::with_capacity(alloc, plan.pieces())?))
 }
 
 /// Reads the rest of a text with several threads, after what a reader has read, including a problem line. If that can't be done,
 /// it returns the reader, which has taken all that came from the device. If there is no memory for what the threads share,
 /// nothing came.
-pub(crate) fn read_together<K: KeepAcross + Send + Sync, O: Origin + Send + Sync, H: Crew, R: Read>(
+pub(crate) fn read_together<
+    K: KeepAcross + Send + Sync,
+    O: Origin + Send + Sync,
+    H: ThreadsAndSleep,
+    R: Read,
+>(
     rt: &H,
     alloc: Global,
     device: &mut R,
@@ -247,14 +248,14 @@ pub(crate) fn read_together<K: KeepAcross + Send + Sync, O: Origin + Send + Sync
         × (R.passed device.old ≤ R.passed device.new)) }
     ensures never { R.failing device.old ≡ Never → R.has_failed device.new ≡ false }
 {
-    let Ok((shared, mut stock, flying)) = begin::<K, O>(alloc, &reader, plan) else {
+    let Ok((shared, mut pool, flying)) = begin::<K, O>(alloc, &reader, plan) else {
         return Err(reader);
     };
-    let mut course = Course::new(reader, flying);
-    match read_beside(rt, device, &mut course, &mut stock, &shared) {
+    let mut progress = ReadingProgress::new(reader, flying);
+    match read_beside(rt, device, &mut progress, &mut pool, &shared) {
         Some(read) => Ok(read),
-        None => match take_rest(device, &mut course, &mut stock) {
-            Ok(()) => Err(course.into_reader()),
+        None => match take_rest(device, &mut progress, &mut pool) {
+            Ok(()) => Err(progress.into_reader()),
             Err(e) => Ok(Err(e)),
         },
     }

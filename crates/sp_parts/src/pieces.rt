@@ -1,7 +1,7 @@
 //! Pieces of a text, which threads pass to one another. The type of a piece that comes back says what is known of it.
 ghost use Rattle.std.specs.Prelude.{◌≡◌, ℕ, List, Option, Some, None};
 ghost use Rattle.std.specs.Arc.{arc_value};
-ghost use Rattle.sp_text.specs.Text.{Item};
+ghost use Rattle.sp_text.specs.Text.{ItemLine};
 ghost use Rattle.sp_text.specs.Plain.{HasProblem};
 ghost use Rattle.sp_parts.specs.Parts.{IsAt, AreParts};
 
@@ -15,7 +15,7 @@ use std::sync::Arc;
 /// Also keeps items that another thread has read. There is at most one proof that it keeps them, so that the result for a piece
 /// can bring it along.
 pub trait KeepAcross: KeepParts {
-    ghost one_proof: { (keep : Self) (items : List Item) → IsProp (Self.Kept keep items) };
+    ghost one_proof: { (keep : Self) (items : List ItemLine) → IsProp (Self.Kept keep items) };
 }
 
 /// Where the pieces of one call come from. The call chooses it, for its proof only.

@@ -2,12 +2,12 @@
 ghost use Rattle.std.specs.Prelude.{◌≡◌, ◌<◌, ℕ, List, Some, vec_len, IfOk};
 ghost use Rattle.sp_text.specs.Plain.{HasProblem};
 
-use crate::crew::Plan;
 use crate::pieces::{Origin, Piece, ReadPiece, read_piece};
-use crate::signals::Signals;
+use crate::plan::Plan;
+use crate::signals::ReadingSignals;
 use crossbeam_deque::{Steal, Stealer};
 use sp_text::{Collector, Feeder, KeepParts};
-use sp_word::Crew;
+use sp_word::ThreadsAndSleep;
 use std::alloc::{AllocError, Global};
 use std::hint::spin_loop;
 use std::sync::{Mutex, MutexGuard};
@@ -26,7 +26,7 @@ const ASKS: u32 = 100;
 pub struct Shared<K: KeepParts, O: Origin> {
     pub(crate) alloc: Global,
     pub(crate) plan: Plan,
-    pub(crate) signals: Signals,
+    pub(crate) signals: ReadingSignals,
     // reads plain lines after the problem line
     plain: Feeder<Collector<K>>,
     // the pieces still to be read
@@ -76,7 +76,7 @@ impl<K: KeepParts, O: Origin> Shared<K, O> {
         Ok(Shared {
             alloc,
             plan: *plan,
-            signals: Signals::new(),
+            signals: ReadingSignals::new(),
             plain: reader.plain_reader()?,
             todo,
             places: empty_places(alloc, plan.pieces())?,
@@ -133,7 +133,7 @@ impl<K: KeepParts, O: Origin> Shared<K, O> {
     }
 
     /// Reads pieces until the whole text is read.
-    pub(crate) fn serve<H: Crew>(&self, rt: &H) {
+    pub(crate) fn serve<H: ThreadsAndSleep>(&self, rt: &H) {
         let mut turn: u32 = 0;
         for _ in 0..ROUNDS {
             if self.signals.is_over() {

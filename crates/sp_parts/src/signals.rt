@@ -1,6 +1,6 @@
 //! Signals between the threads that read a text. They are hints only: nothing is proved about them, and no proof uses them.
 
-use sp_word::Crew;
+use sp_word::ThreadsAndSleep;
 use std::hint::spin_loop;
 use std::sync::atomic::{AtomicBool, AtomicU64, Ordering};
 use std::thread::yield_now;
@@ -15,7 +15,7 @@ const NAP: u64 = 500;
 
 /// The signals between the threads that read a text.
 #[derive(Drop)]
-pub struct Signals {
+pub struct ReadingSignals {
     // Whether all is read.
     over: AtomicBool,
     // The number of threads that sleep.
@@ -24,10 +24,10 @@ pub struct Signals {
     bell: AtomicU64,
 }
 
-impl Signals {
+impl ReadingSignals {
     /// Makes the signals for threads that start to read.
-    pub(crate) fn new() -> Signals {
-        Signals {
+    pub(crate) fn new() -> ReadingSignals {
+        ReadingSignals {
             over: AtomicBool::new(false),
             asleep: AtomicU64::new(0),
             bell: AtomicU64::new(0),
@@ -59,7 +59,7 @@ impl Signals {
     }
 
     // Sleeps until the bell changes, or for at most `NAP` microseconds, unless all is read.
-    fn nap<H: Crew>(&self, rt: &H) {
+    fn nap<H: ThreadsAndSleep>(&self, rt: &H) {
         self.asleep.fetch_add(1, Ordering::SeqCst);
         let seen = self.bell.load(Ordering::SeqCst);
         if !self.is_over() {
@@ -70,7 +70,7 @@ impl Signals {
     }
 
     /// Waits for some time, the longer the more often the thread has looked in vain.
-    pub(crate) fn rest<H: Crew>(&self, rt: &H, turn: u32) {
+    pub(crate) fn rest<H: ThreadsAndSleep>(&self, rt: &H, turn: u32) {
         if turn < LOOKS {
             spin_loop();
         } else if turn < YIELDS {

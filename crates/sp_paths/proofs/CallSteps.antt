@@ -7,9 +7,9 @@ use Rattle.sp_word.specs.Word.{Word, Unreached, Pair, lesser}
 use Rattle.sp_word.specs.History.{Table, Call, Offer, Read, Event, after, run, IsLegal}
 use Rattle.sp_paths.specs.Paths.{Graph, IsGraph, IsVertex, HasArc, HasWalk, HasWalkBy, IsLawful, IsAtMost, IsClosed, IsTableFrom, IsWithin}
 use Rattle.sp_paths.specs.Calls.{IsOpening, HasRead, IsOfArc, IsByArc, IsByArcs, IsClosedHistory, ClosedEndsInTree, OneCallMore, OpeningOpens}
-use Rattle.sp_paths.proofs.Walks.{arc_in, walk_none, walk_by, walk_from_by}
+use Rattle.sp_paths.proofs.Walks.{arc_in, walk_by, lawful_walk}
 use Rattle.sp_paths.proofs.Core.{pair_dist}
-use Rattle.sp_paths.proofs.Run.{ends_in_tree}
+use Rattle.sp_paths.proofs.TheoremProofs.{finished_ends_in_tree}
 
 -- ## The lesser of a word and a pair
 
@@ -182,10 +182,6 @@ module _ (g : Graph) (gr : IsGraph g) (s : ℕ) (in' : IsVertex g.n s) (max : �
     within : IsWithin g.n max words
     reads : (u d : ℕ) → IsVertex g.n u → HasRead before u d → HasWalk g s u d
 
-  lawful_walk : (v d p : ℕ) → IsLawful g s v (Pair d p) → HasWalk g s v d
-  lawful_walk v d p (inl h) = rw (h.0, h.1) (walk_none g s)
-  lawful_walk v d p (inr h) = walk_from_by g s v d p h
-
   read_sound : (words : Table) (before : List Event) (by v : ℕ) (found : Word) → found ≡ words v → IsSound words before → IsSound (after words (reading by v found)) (before ++ reading by v found ∷ [])
   read_sound words before by v found is h = record {
     table = record { lawful = λ u k. rw (read_anywhere words u by v found) (h.table.lawful u k); source = read_anywhere words s by v found ∙ h.table.source };
@@ -197,7 +193,7 @@ module _ (g : Graph) (gr : IsGraph g) (s : ℕ) (in' : IsVertex g.n s) (max : �
       reads u d by' q k (inl e) =
           let vertex : v ≡ u = ap (λ x. x.vertex) e in
           let word : words u ≡ Pair d q = ap words (sym vertex) ∙ sym is ∙ read_found found (Pair d q) (ap (λ x. x.call) e) in
-          lawful_walk u d q (rw word at (h.table.lawful u k))
+          lawful_walk g s u d q (rw word at (h.table.lawful u k))
       reads u d by' q k (inr old) = h.reads u d k (by', q, old)
 
   -- a pair of an arc and an earlier read is offered to a vertex
@@ -293,16 +289,13 @@ module _ (g : Graph) (gr : IsGraph g) (s : ℕ) (in' : IsVertex g.n s) (max : �
 pub closed_ends_in_tree : ClosedEndsInTree
 closed_ends_in_tree g s max first final events r =
     let sound = run_sound g r.graph s r.source max first [] events (first_sound g r.graph s r.source max first r.opened) r.legal r.by_arcs in
-    ends_in_tree
-    g
-    r.graph
-    s
-    r.source
-    max
-    final
-    (final_table g r.graph s r.source max first final events r.ends sound.0)
-    (final_closed g r.graph s r.source max first final events r.ends r.closed)
-    (final_within g r.graph s r.source max first final events r.ends sound.1)
+    finished_ends_in_tree g s max final (record {
+      graph = r.graph;
+      source = r.source;
+      table = final_table g r.graph s r.source max first final events r.ends sound.0;
+      within = final_within g r.graph s r.source max first final events r.ends sound.1;
+      closed = final_closed g r.graph s r.source max first final events r.ends r.closed;
+    })
 
 pub opening_opens : OpeningOpens
 opening_opens n s = record {

@@ -3,15 +3,15 @@ use Rattle.std.proofs.Common.{◌≡◌, ℕ, ◌+◌, ◌<◌, ◌≤◌, ◌�
 use Rattle.std.proofs.lemmas.Bool.{cases_lt}
 use Rattle.sp_word.specs.History.{Table}
 use Rattle.sp_word.specs.Word.{Word, Pair, Unreached}
-use Rattle.sp_paths.specs.Paths.{Graph, HasWalk, IsLeast, IsTreeWord, IsLawful, IsAtMost, IsClosed}
+use Rattle.sp_paths.specs.Paths.{Graph, IsLeast, IsTreeWord, IsAtMost, IsClosed}
 use Rattle.sp_paths.specs.Theorems.{IsFinished, HasPassed}
 use Rattle.sp_paths.specs.Phase.{IsMarkedCopy, HasNoOpen, PassesTest, SweptEndsInTree, SweptIsTree, SweptIsFar, TestedIsSettled, SettledIsLeast, IsShorter, ShorterIsLater, TestedIsPair, SweptIsPair}
-use Rattle.sp_paths.proofs.Walks.{arc_in, walk_none, walk_from_by}
+use Rattle.sp_paths.proofs.Walks.{arc_in, lawful_walk, least_same}
 use Rattle.sp_paths.proofs.Core.{cases_word}
 use Rattle.sp_paths.proofs.Least.{least_exists}
 use Rattle.sp_paths.proofs.Only.{tree_pair_least}
-use Rattle.sp_paths.proofs.TheoremProofs.{finished_ends_in_tree, finished_is_tree, finished_is_far, finished_is_pair, passed_is_settled, passed_is_pair}
-use Rattle.sp_paths.proofs.Walks.{least_same}
+use Rattle.sp_paths.proofs.TheoremProofs.{finished_ends_in_tree, finished_is_tree, finished_is_far, finished_is_pair}
+use Rattle.sp_paths.proofs.Settle.{passed_is_settled, passed_is_pair}
 
 module _ (g : Graph) (s max delta : ℕ) (known words : Table) (light heavy : ℕ → Option ℕ) (copy : IsMarkedCopy g s max delta known words light heavy) where
   swept_closed : HasNoOpen g words light heavy → IsClosed g max words
@@ -48,11 +48,6 @@ swept_is_far g s max delta known words light heavy copy done v out least = finis
 
 pub tested_is_settled : TestedIsSettled
 tested_is_settled g s max delta i known words light heavy copy test = passed_is_settled g s max delta i words (tested_passed g s max delta known words light heavy copy i test)
-
--- a lawful pair is of a walk
-lawful_walk : (g : Graph) (s v d p : ℕ) → IsLawful g s v (Pair d p) → HasWalk g s v d
-lawful_walk g s v d p (inl own) = rw (own.0, own.1) (walk_none g s)
-lawful_walk g s v d p (inr by) = walk_from_by g s v d p by
 
 pub settled_is_least : SettledIsLeast
 settled_is_least g s max bound words gr settled v d p lawful below fits = go (cases_word (words v))

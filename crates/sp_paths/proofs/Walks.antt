@@ -4,7 +4,8 @@ use Rattle.std.specs.Prelude.{Contains}
 use Rattle.std.proofs.lemmas.List.Elements.{All-push, All-pop, All-nil, All-contains}
 use Rattle.std.proofs.lemmas.List.Sums.{sum_by_push}
 use Rattle.sp_paths.specs.declared.arc.Arc.{Arc}
-use Rattle.sp_paths.specs.Paths.{Graph, IsGraph, IsVertex, IsArc, HasArc, LeadsTo, walk_length, HasWalk, HasWalkBy, IsLeast}
+use Rattle.sp_word.specs.Word.{Pair}
+use Rattle.sp_paths.specs.Paths.{Graph, IsGraph, IsVertex, IsArc, HasArc, LeadsTo, walk_length, HasWalk, HasWalkBy, IsLeast, IsLawful}
 
 -- an arc of a graph has vertices for its ends, and a positive length
 pub arc_in : (g : Graph) → IsGraph g → (u v l : ℕ) → HasArc g u v l → IsVertex g.n u × IsVertex g.n v × (1 ≤ l)
@@ -71,6 +72,19 @@ walk_cases g s v d (walk, w, e) = go (last_arc walk)
     go (inr (rest, a, q)) =
         let r = walk_by_parts g s v d a.tail (rest, a, (rw q at w), sym (ap walk_length q) ∙ e, refl) in
         inr (a.tail, r.0, r.1, r.2, r.3, r.4)
+
+-- a walk ends at a vertex
+pub walk_vertex : (g : Graph) → IsGraph g → (s : ℕ) → IsVertex g.n s → (v d : ℕ) → HasWalk g s v d → IsVertex g.n v
+walk_vertex g gr s in' v d w = go (walk_cases g s v d w)
+  where
+    go : ((s ≡ v) × (d ≡ 0)) ⊎ ((u c l : ℕ) × HasWalk g s u c × HasArc g u v l × (c + l ≡ d)) → IsVertex g.n v
+    go (inl h) = rw h.0 at in'
+    go (inr (u, c, l, w', a, e)) = (arc_in g gr u v l a).1
+
+-- a lawful pair is of a walk
+pub lawful_walk : (g : Graph) (s v d p : ℕ) → IsLawful g s v (Pair d p) → HasWalk g s v d
+lawful_walk g s v d p (inl own) = rw (own.0, own.1) (walk_none g s)
+lawful_walk g s v d p (inr by) = walk_from_by g s v d p by
 
 -- two least lengths are one
 pub least_same : (g : Graph) (s v d e : ℕ) → IsLeast g s v d → IsLeast g s v e → d ≡ e

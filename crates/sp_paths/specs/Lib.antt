@@ -4,3 +4,8 @@ pub mod Phase
 pub mod Bags
 pub mod Rows
 pub mod Calls
+pub mod Forests
+pub mod Roots
+pub mod ForestLaws
+pub mod Routes
+pub mod RouteLaws

@@ -18,14 +18,14 @@ use Rattle.sp_paths.proofs.Walks.{arc_in, walk_by_parts}
 use Rattle.sp_offer.specs.Order.{IsKnownWord, IsNoMore}
 use Rattle.sp_offer.specs.Story.{Knowledge, known_table, IsCopy}
 use Rattle.sp_bins.specs.declared.entry.Entry.{Entry}
-use Rattle.sp_rounds.specs.Content.{Content}
+use Rattle.sp_rounds.specs.Content.{BucketsContent}
 use Rattle.sp_answer.specs.Table.{TreeTable, HasPredWithin, table_of, tree_of}
 use Rattle.sp_phase.specs.declared.marks.LeaderMark.{LeaderMark}
 use Rattle.sp_answer.specs.declared.answer.RunError.TheVariants.{TooFar}
 use Rattle.sp_phase.specs.Stage.{Stage, IsStage, law_of}
-use Rattle.sp_phase.specs.Marks.{Noted, mark_of, light_at, heavy_at}
+use Rattle.sp_phase.specs.Marks.{NotedMarks, mark_of, light_at, heavy_at}
 use Rattle.sp_phase.proofs.TaskMarks.{some_same}
-use Rattle.sp_phase.specs.declared.sweeping.Bounds.{Bounds}
+use Rattle.sp_phase.specs.declared.sweeping.RelaxedBelow.{RelaxedBelow}
 use Rattle.sp_phase.specs.Lead.{Lead}
 use Rattle.sp_phase.specs.Running.{IsQueued, Holds, Leads}
 use Rattle.sp_phase.specs.Sweep.{IsMarkedAt, IsRelaxedAtDist, IsRelaxedHere, AreRelaxed, IsOpen, IsCopied, IsSwept, HasCopied, HasWords}
@@ -48,7 +48,7 @@ is_vertex n v = go (cases_lt 0 v) (cases_lt n v)
     go (inl low) (inl high) = inr (λ at. absurd (let h = at.1 in omega arith))
     go (inl low) (inr high) = inl (omega arith, high)
 
-module _ (P : ℕ) (st : Stage) (stage : IsStage P st) (before after : Knowledge) (m : Noted) (words : List Word) (h : Holds P st before m) (size : length words ≡ st.graph.n) (copy : IsCopy (law_of P st) words before.story after.story) (lawful : (v : ℕ) → IsKnownWord (law_of P st) v (known_table after.story v)) where
+module _ (P : ℕ) (st : Stage) (stage : IsStage P st) (before after : Knowledge) (m : NotedMarks) (words : List Word) (h : Holds P st before m) (size : length words ≡ st.graph.n) (copy : IsCopy (law_of P st) words before.story after.story) (lawful : (v : ℕ) → IsKnownWord (law_of P st) v (known_table after.story v)) where
   low_enough : (v : ℕ) → IsVertex st.graph.n v → v ≤ length words
   low_enough v at = let k = at.1 in omega arith
 
@@ -91,7 +91,7 @@ pub dist_fits : (P d : ℕ) → is_layout P ≡ true → d ≤ max_dist P → d 
 dist_fits P d layout low = by_layout (λ Q. d ≤ max_dist Q → d < 18446744073709551615) P layout (λ h. omega arith) (λ h. omega arith) (λ h. omega arith) (λ h. omega arith) low
 
 -- where no entry is open, no vertex is
-pub none_open : (P : ℕ) (st : Stage) (c : Knowledge) (marks : List LeaderMark) (words : List Word) (b : Bounds) → b.light ≡ 18446744073709551615 → b.heavy ≡ 18446744073709551615 → IsCopied P st c marks words
+pub none_open : (P : ℕ) (st : Stage) (c : Knowledge) (marks : List LeaderMark) (words : List Word) (b : RelaxedBelow) → b.light ≡ 18446744073709551615 → b.heavy ≡ 18446744073709551615 → IsCopied P st c marks words
     → AreRelaxed words marks b (length words) → IsSwept P st c marks words
 none_open P st c marks words b light heavy copy all = (
   copy,
@@ -141,7 +141,7 @@ known_words P st c marks words t copy tree has v at =
 
 -- ## The search for open vertices
 
-relaxed_more : (words : List Word) (marks : List LeaderMark) (b : Bounds) (k : ℕ) → AreRelaxed words marks b k → IsRelaxedHere words marks b (k + 1) → AreRelaxed words marks b (k + 1)
+relaxed_more : (words : List Word) (marks : List LeaderMark) (b : RelaxedBelow) (k : ℕ) → AreRelaxed words marks b k → IsRelaxedHere words marks b (k + 1) → AreRelaxed words marks b (k + 1)
 relaxed_more words marks b k before here u d p at is = go (cases_lt k u)
   where
     go : (k < u) ⊎ (u ≤ k) → IsRelaxedAtDist marks b u d
@@ -155,7 +155,7 @@ nothing_more : (xs : List Entry) (x : Entry) → xs ++ x ∷ [] ≡ [] → ⊥
 nothing_more [] x e = absurd (cc)
 nothing_more (y ∷ ys) x e = absurd (cc)
 
-pub open_more : (words : List Word) (marks : List LeaderMark) (b : Bounds) (k : ℕ) (old new : List Entry) (o : Option Entry) → new ≡ old ++ option_to_list o → (old ≡ [] → AreRelaxed words marks b k)
+pub open_more : (words : List Word) (marks : List LeaderMark) (b : RelaxedBelow) (k : ℕ) (old new : List Entry) (o : Option Entry) → new ≡ old ++ option_to_list o → (old ≡ [] → AreRelaxed words marks b k)
     → IfNone o (IsRelaxedHere words marks b (k + 1)) → new ≡ [] → AreRelaxed words marks b (k + 1)
 open_more words marks b k old new None is before here none = relaxed_more words marks b k (before (sym (append-nil old) ∙ (sym is ∙ none))) here
 open_more words marks b k old new (Some e) is before here none = absurd (nothing_more old e (sym is ∙ none))
@@ -165,34 +165,34 @@ entries_more F old new None is all one = subst (λ xs. All F xs) (sym (is ∙ ap
 entries_more F old new (Some e) is all one = subst (λ xs. All F xs) (sym is) (All-push F old e all one)
 
 -- a vertex with no distance, and one with a distance
-pub none_here : (words : List Word) (marks : List LeaderMark) (b : Bounds) (u : ℕ) (w : Word) → w ≡ word_at words u → dist_of w ≡ None → IsRelaxedHere words marks b u
+pub none_here : (words : List Word) (marks : List LeaderMark) (b : RelaxedBelow) (u : ℕ) (w : Word) → w ≡ word_at words u → dist_of w ≡ None → IsRelaxedHere words marks b u
 none_here words marks b u Unreached read is d p at = absurd (let e : Unreached ≡ Pair d p = read ∙ at in cc)
 none_here words marks b u (Pair e q) read is d p at = absurd (cc)
 
-pub relaxed_here : (words : List Word) (marks : List LeaderMark) (b : Bounds) (u dist : ℕ) (w : Word) (m : LeaderMark) → w ≡ word_at words u → dist_of w ≡ Some dist → m ≡ mark_of marks u
+pub relaxed_here : (words : List Word) (marks : List LeaderMark) (b : RelaxedBelow) (u dist : ℕ) (w : Word) (m : LeaderMark) → w ≡ word_at words u → dist_of w ≡ Some dist → m ≡ mark_of marks u
     → IsMarkedAt m b dist → IsRelaxedHere words marks b u
 relaxed_here words marks b u dist w m read is mark h d p at =
     let same : dist ≡ d = some_same dist d (sym is ∙ ap dist_of (read ∙ at)) in
     let H : ℕ → Type 0 = λ x. IsRelaxedAtDist marks b u x in
     subst H same (λ lt. ap (λ k. k.light) (sym mark) ∙ h.0 lt, λ lt. ap (λ k. k.heavy) (sym mark) ∙ h.1 lt)
 
-pub open_here : (words : List Word) (marks : List LeaderMark) (b : Bounds) (u dist : ℕ) (w : Word) (m : LeaderMark) → IsVertex (length words) u → w ≡ word_at words u → dist_of w ≡ Some dist → m ≡ mark_of marks u
+pub open_here : (words : List Word) (marks : List LeaderMark) (b : RelaxedBelow) (u dist : ℕ) (w : Word) (m : LeaderMark) → IsVertex (length words) u → w ≡ word_at words u → dist_of w ≡ Some dist → m ≡ mark_of marks u
     → (IsMarkedAt m b dist → ⊥) → IsOpen words marks b (record { vertex = u; dist = dist })
 open_here words marks b u dist w m at read is mark h =
     let pair = dist_pair w dist is in
     (at, (pair.0, sym read ∙ pair.1), λ r. h (λ lt. ap (λ k. k.light) mark ∙ r.0 lt, λ lt. ap (λ k. k.heavy) mark ∙ r.1 lt))
 
-pub kept_here : (words : List Word) (marks : List LeaderMark) (b : Bounds) (u dist : ℕ) (w : Word) (m : LeaderMark) (o : Option Entry) → w ≡ word_at words u → dist_of w ≡ Some dist → m ≡ mark_of marks u → IfNone o (IsMarkedAt m b dist) → IfNone o (IsRelaxedHere words marks b u)
+pub kept_here : (words : List Word) (marks : List LeaderMark) (b : RelaxedBelow) (u dist : ℕ) (w : Word) (m : LeaderMark) (o : Option Entry) → w ≡ word_at words u → dist_of w ≡ Some dist → m ≡ mark_of marks u → IfNone o (IsMarkedAt m b dist) → IfNone o (IsRelaxedHere words marks b u)
 kept_here words marks b u dist w m None read is mark h = relaxed_here words marks b u dist w m read is mark h
 kept_here words marks b u dist w m (Some e) read is mark h = tt
 
-pub told_open : (words : List Word) (marks : List LeaderMark) (b : Bounds) (u dist : ℕ) (w : Word) (m : LeaderMark) (o : Option Entry) → IsVertex (length words) u → w ≡ word_at words u → dist_of w ≡ Some dist → m ≡ mark_of marks u
+pub told_open : (words : List Word) (marks : List LeaderMark) (b : RelaxedBelow) (u dist : ℕ) (w : Word) (m : LeaderMark) (o : Option Entry) → IsVertex (length words) u → w ≡ word_at words u → dist_of w ≡ Some dist → m ≡ mark_of marks u
     → IfSome o (λ e. e ≡ record { vertex = u; dist = dist }) → IfSome o (λ _. IsMarkedAt m b dist → ⊥) → IfSome o (IsOpen words marks b)
 told_open words marks b u dist w m None at read is mark same h = tt
 told_open words marks b u dist w m (Some e) at read is mark same h = subst (IsOpen words marks b) (sym same) (open_here words marks b u dist w m at read is mark h)
 
 -- what is open may be queued
-open_queued : (P : ℕ) (st : Stage) (c : Knowledge) (marks : List LeaderMark) (words : List Word) (b : Bounds) (open' : List Entry) → IsCopied P st c marks words → All (IsOpen words marks b) open' → All (IsQueued P st) open'
+open_queued : (P : ℕ) (st : Stage) (c : Knowledge) (marks : List LeaderMark) (words : List Word) (b : RelaxedBelow) (open' : List Entry) → IsCopied P st c marks words → All (IsOpen words marks b) open' → All (IsQueued P st) open'
 open_queued P st c marks words b open' copy all k d lt =
     let h = all k d lt in
     let e = get_or open' k d in
@@ -202,7 +202,7 @@ open_queued P st c marks words b open' copy all k d lt =
     (at, copy.of.within e.vertex e.dist h.1.0 at h.1.1)
 
 -- some of the open vertices were queued
-pub leads_opened : (P : ℕ) (l : Lead) (q : Content) (b : Bounds) (open' xs : List Entry) (k : ℕ) → HasCopied P l → xs ≡ open' → All (IsOpen l.words l.marks.each b) open' → q.delta ≡ l.buckets.delta
+pub leads_opened : (P : ℕ) (l : Lead) (q : BucketsContent) (b : RelaxedBelow) (open' xs : List Entry) (k : ℕ) → HasCopied P l → xs ≡ open' → All (IsOpen l.words l.marks.each b) open' → q.delta ≡ l.buckets.delta
     → IsPermutation (l.buckets.entries ++ take k xs) q.entries → Leads P l.stage l → Leads P l.stage (record l { buckets = q })
 leads_opened P l q b open' xs k copy is all width moved led =
     let queued = subst (λ es. All (IsQueued P l.stage) es) (sym is) (open_queued P l.stage l.caller l.marks.each l.words b open' copy all) in

@@ -16,7 +16,7 @@ use Rattle.sp_graph.specs.RowsValue.{Split}
 use Rattle.sp_rounds.specs.declared.task.TaskKind.{TaskKind}
 use Rattle.sp_rounds.specs.declared.task.TaskKind.TheVariants.{Light, Heavy}
 use Rattle.sp_rounds.specs.declared.task.Task.{Task}
-use Rattle.sp_rounds.specs.Offers.{Asked, arcs_of, arcs_of_kind, offer_along, offers_along, offers_of, AreSameOffers}
+use Rattle.sp_rounds.specs.Offers.{AskedOffer, arcs_of, arcs_of_kind, offer_along, offers_along, offers_of, AreSameOffers}
 use Rattle.sp_rounds.specs.Calls.{question_of, entries, entry_of_reply, entry_of_call, word_offered}
 use Rattle.sp_phase.specs.Stage.{Stage, rows_of}
 use Rattle.sp_phase.specs.Running.{IsQueued}
@@ -27,13 +27,13 @@ module _ (test : ℕ → ℕ → Bool) where
   word_passes v Unreached = true
   word_passes v (Pair d p) = test v d
 
-  abbrev passes : Asked → Bool
+  abbrev passes : AskedOffer → Bool
   passes a = word_passes a.vertex a.word
 
-  weight : Asked → ℕ
+  weight : AskedOffer → ℕ
   weight a = cond (passes a) 0 1
 
-  weighs_nothing : (a : Asked) → passes a ≡ true → weight a ≡ 0
+  weighs_nothing : (a : AskedOffer) → passes a ≡ true → weight a ≡ 0
   unfolding weight
   weighs_nothing a h = ap (λ b. cond b 0 1) h
 
@@ -41,7 +41,7 @@ module _ (test : ℕ → ℕ → Bool) where
   light_passes true h = refl
   light_passes false h = absurd (omega arith)
 
-  no_weight : (xs : List Asked) → All (λ a. passes a ≡ true) xs → sum_by weight xs ≡ 0
+  no_weight : (xs : List AskedOffer) → All (λ a. passes a ≡ true) xs → sum_by weight xs ≡ 0
   no_weight [] all = refl
   no_weight (x ∷ xs) all =
       let one = weighs_nothing x (All-head (λ a. passes a ≡ true) x xs all) in
@@ -51,12 +51,12 @@ module _ (test : ℕ → ℕ → Bool) where
       let e1 : w ≡ 0 = one in let e2 : s ≡ 0 = rest in let e3 : t ≡ w + s = both in
       omega arith
 
-  all_pass : (xs : List Asked) → sum_by weight xs ≡ 0 → All (λ a. passes a ≡ true) xs
+  all_pass : (xs : List AskedOffer) → sum_by weight xs ≡ 0 → All (λ a. passes a ≡ true) xs
   unfolding weight
   all_pass xs none k d low = light_passes (passes (get_or xs k d)) (let h = get_or-le-sum_by weight xs k d low in let s : ℕ = sum_by weight xs in let n : s ≡ 0 = none in omega arith)
 
   -- offers that are the same ones pass too
-  same_pass : (xs ys : List Asked) → AreSameOffers xs ys → All (λ a. passes a ≡ true) ys → All (λ a. passes a ≡ true) xs
+  same_pass : (xs ys : List AskedOffer) → AreSameOffers xs ys → All (λ a. passes a ≡ true) ys → All (λ a. passes a ≡ true) xs
   same_pass xs ys same all = all_pass xs (same weight ∙ no_weight ys all)
 
   abbrev entry_passes : Entry → Type 0
@@ -102,7 +102,7 @@ row_arcs rows Light v gr = All-filter _ (IsArc rows.graph.n) (row_of rows.graph.
 row_arcs rows Heavy v gr = All-filter _ (IsArc rows.graph.n) (row_of rows.graph.arcs v) (All-filter _ (IsArc rows.graph.n) rows.graph.arcs gr)
 
 module _ (n max : ℕ) where
-  abbrev Fits : Asked → Type 0
+  abbrev Fits : AskedOffer → Type 0
   Fits a = passes (is_queued n max) a ≡ true
 
   along : (d : ℕ) (arcs : List Arc) → All (IsArc n) arcs → All Fits (offers_along max d arcs)

@@ -10,13 +10,13 @@ use Rattle.sp_word.specs.History.{Table}
 use Rattle.sp_paths.specs.Paths.{IsGraph, IsVertex}
 use Rattle.sp_offer.specs.Story.{Knowledge, known_table}
 use Rattle.sp_bins.specs.declared.entry.Entry.{Entry}
-use Rattle.sp_rounds.specs.Content.{Content, Puts, Takes}
+use Rattle.sp_rounds.specs.Content.{BucketsContent, Puts, Takes}
 use Rattle.sp_rounds.proofs.EntryPlaces.{All-before, All-behind}
 use Rattle.sp_rounds.specs.declared.task.Task.{Task}
 use Rattle.sp_rounds.specs.Left.{RoundDone}
 use Rattle.sp_phase.specs.declared.marks.LeaderMark.{LeaderMark}
 use Rattle.sp_phase.specs.Stage.{Stage, IsStage, Learns, law_of, rows_of}
-use Rattle.sp_phase.specs.Marks.{Noted, no_mark, mark_of, light_at, heavy_at, SameDistances, Remembers}
+use Rattle.sp_phase.specs.Marks.{NotedMarks, no_mark, mark_of, light_at, heavy_at, SameDistances, Remembers}
 use Rattle.sp_phase.specs.Rounds.{IsRunning, KeepsRunning}
 use Rattle.sp_phase.proofs.TaskMarks.{running_same}
 use Rattle.sp_phase.specs.Lead.{Lead}
@@ -25,7 +25,7 @@ use Rattle.sp_phase.proofs.KnownWords.{running_falls}
 use Rattle.sp_phase.proofs.FoundEntries.{found_queued}
 
 -- a caller that learns more holds what it held
-pub holds_learns : (P : ℕ) (st : Stage) (before after : Knowledge) (m : Noted) → Learns P st before after → Holds P st before m → Holds P st after m
+pub holds_learns : (P : ℕ) (st : Stage) (before after : Knowledge) (m : NotedMarks) → Learns P st before after → Holds P st before m → Holds P st after m
 holds_learns P st before after m learns h = record {
   stage = h.stage;
   table = learns.table ∙ h.table;
@@ -33,7 +33,7 @@ holds_learns P st before after m learns h = record {
   remembered = h.remembered;
 }
 
-remember_more : (n v : ℕ) (before after : Noted) → IsVertex n v → Remembers before after v → All (IsVertex n) before.remembered → All (IsVertex n) after.remembered
+remember_more : (n v : ℕ) (before after : NotedMarks) → IsVertex n v → Remembers before after v → All (IsVertex n) before.remembered → All (IsVertex n) after.remembered
 remember_more n v before after at (inl same) all = subst (λ xs. All (IsVertex n) xs) (sym same) all
 remember_more n v before after at (inr more) all = subst (λ xs. All (IsVertex n) xs) (sym more) (All-push (IsVertex n) before.remembered v all at)
 
@@ -42,7 +42,7 @@ same_distances P st words before after gr same run =
     running_same P st words before after gr same.0 (λ u at. same.1 u (subst (λ k. IsVertex k u) (sym run.size) at)) run
 
 -- a vertex enters a round
-pub holds_enters : (P : ℕ) (st : Stage) (c : Knowledge) (before after : Noted) (v : ℕ) → IsGraph st.graph → IsVertex st.graph.n v → SameDistances before.each after.each → Remembers before after v → Holds P st c before → Holds P st c after
+pub holds_enters : (P : ℕ) (st : Stage) (c : Knowledge) (before after : NotedMarks) (v : ℕ) → IsGraph st.graph → IsVertex st.graph.n v → SameDistances before.each after.each → Remembers before after v → Holds P st c before → Holds P st c after
 holds_enters P st c before after v gr at same more h = record {
   stage = h.stage;
   table = h.table;
@@ -51,7 +51,7 @@ holds_enters P st c before after v gr at same more h = record {
 }
 
 -- and one is forgotten
-pub holds_forgets : (P : ℕ) (st : Stage) (c : Knowledge) (before after : Noted) → IsGraph st.graph → SameDistances before.each after.each → after.remembered ≡ before.remembered → Holds P st c before → Holds P st c after
+pub holds_forgets : (P : ℕ) (st : Stage) (c : Knowledge) (before after : NotedMarks) → IsGraph st.graph → SameDistances before.each after.each → after.remembered ≡ before.remembered → Holds P st c before → Holds P st c after
 holds_forgets P st c before after gr same more h = record {
   stage = h.stage;
   table = h.table;
@@ -65,7 +65,7 @@ all_put : (F : Entry → Type 0) (old found new : List Entry) → IsPermutation 
 all_put F old found new moved a b = All-permutation F (old ++ found) new moved (All-append F old found a b)
 
 module _ (P : ℕ) (st : Stage) (stage : IsStage P st) (tasks : List Task) (before after : Knowledge) (found : List Entry) (done : RoundDone (law_of P st) (max_dist P) (rows_of st) tasks before after found) where
-  pub round_holds : (m m' : Noted) → Holds P st before m → KeepsRunning tasks m.each m'.each → m'.remembered ≡ m.remembered → Holds P st after m'
+  pub round_holds : (m m' : NotedMarks) → Holds P st before m → KeepsRunning tasks m.each m'.each → m'.remembered ≡ m.remembered → Holds P st after m'
   round_holds m m' h keeps same = record {
     stage = stage;
     table = done.later.table ∙ h.table;
@@ -88,7 +88,7 @@ pub put_none : (old xs : List Entry) → IsPermutation (old ++ take 0 xs) old
 put_none old xs = let e : old ++ take 0 xs ≡ old = append-nil old in subst (λ ys. IsPermutation ys old) (sym e) (IsPermutation-refl old)
 
 -- what is remembered was handed out
-pub holds_recalls : (P : ℕ) (st : Stage) (c : Knowledge) (m : Noted) → Holds P st c m
+pub holds_recalls : (P : ℕ) (st : Stage) (c : Knowledge) (m : NotedMarks) → Holds P st c m
     → Holds P st c (record m { remembered = [] })
 holds_recalls P st c m h = record {
   stage = h.stage;
@@ -98,18 +98,18 @@ holds_recalls P st c m h = record {
 }
 
 -- the caller and the marks of a leader went on
-pub leads_holds : (P : ℕ) (st : Stage) (l : Lead) (c : Knowledge) (m : Noted) → Holds P st c m → Leads P st l
+pub leads_holds : (P : ℕ) (st : Stage) (l : Lead) (c : Knowledge) (m : NotedMarks) → Holds P st c m → Leads P st l
     → Leads P st (record l { caller = c; marks = m })
 leads_holds P st l c m holds h = record { holds = holds; width = h.width; entries = h.entries; size = h.size }
 
 -- what is queued changed
-pub leads_queued : (P : ℕ) (st : Stage) (l : Lead) (q : Content) → q.delta ≡ l.buckets.delta → All (IsQueued P st) q.entries
+pub leads_queued : (P : ℕ) (st : Stage) (l : Lead) (q : BucketsContent) → q.delta ≡ l.buckets.delta → All (IsQueued P st) q.entries
     → Leads P st l → Leads P st (record l { buckets = q })
 leads_queued P st l q width all h =
     record { holds = h.holds; width = width ∙ h.width; entries = all; size = h.size }
 
 -- a bucket is taken out
-pub takes_queued : (P : ℕ) (st : Stage) (l : Lead) (q : Content) (i : ℕ) (taken : List Entry) → Takes i taken l.buckets q
+pub takes_queued : (P : ℕ) (st : Stage) (l : Lead) (q : BucketsContent) (i : ℕ) (taken : List Entry) → Takes i taken l.buckets q
     → Leads P st l → Leads P st (record l { buckets = q }) × All (IsQueued P st) taken
 takes_queued P st l q i taken takes h =
     let all = All-permutation (IsQueued P st) l.buckets.entries (taken ++ q.entries) takes.entries h.entries in (
@@ -124,7 +124,7 @@ put_queued F old xs new k moved before all =
     let parts : take k xs ++ drop k xs ≡ xs = take-append-drop k xs in
     all_put F old (take k xs) new moved before (All-before F (take k xs) (drop k xs) (subst (λ ys. All F ys) (sym parts) all))
 
-pub round_leads : (P : ℕ) (st : Stage) (tasks : List Task) (l : Lead) (c : Knowledge) (m : Noted) (q : Content) (found : List Entry)
+pub round_leads : (P : ℕ) (st : Stage) (tasks : List Task) (l : Lead) (c : Knowledge) (m : NotedMarks) (q : BucketsContent) (found : List Entry)
     → Leads P st l → RoundDone (law_of P st) (max_dist P) (rows_of st) tasks l.caller c found
     → KeepsRunning tasks l.marks.each m.each → m.remembered ≡ l.marks.remembered → q.delta ≡ l.buckets.delta
     → IsPermutation (l.buckets.entries ++ found) q.entries → Leads P st (record l { caller = c; marks = m; buckets = q })
@@ -141,7 +141,7 @@ replicate_at (suc k) zero = refl
 replicate_at (suc k) (suc i) = replicate_at k i
 
 -- the leader of a run that begins
-pub first_leads : (P : ℕ) (st : Stage) (before : Knowledge) (l : Lead) (n : ℕ) (old : Content) → IsStage P st → before.table ≡ st.table → Learns P st before l.caller → known_table l.caller.story st.source ≡ Pair 0 0
+pub first_leads : (P : ℕ) (st : Stage) (before : Knowledge) (l : Lead) (n : ℕ) (old : BucketsContent) → IsStage P st → before.table ≡ st.table → Learns P st before l.caller → known_table l.caller.story st.source ≡ Pair 0 0
     → n ≡ st.graph.n → l.marks.each ≡ replicate n no_mark → l.marks.remembered ≡ [] → old.delta ≡ st.delta → old.entries ≡ []
     → Puts (record { vertex = st.source; dist = 0 }) old l.buckets → length l.words ≡ st.graph.n → Leads P st l
 first_leads P st before l n old stage caller learns source size marks remembered width empty puts words = record {

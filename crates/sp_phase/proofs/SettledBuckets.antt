@@ -12,11 +12,11 @@ use Rattle.sp_graph.specs.LeftOut.{IsLeastLeftOut}
 use Rattle.sp_offer.specs.Order.{IsKnownWord}
 use Rattle.sp_offer.specs.Story.{Knowledge, known_table}
 use Rattle.sp_bins.specs.declared.entry.Entry.{Entry}
-use Rattle.sp_rounds.specs.Content.{Content, IsLowest}
+use Rattle.sp_rounds.specs.Content.{BucketsContent, IsLowest}
 use Rattle.sp_phase.specs.declared.marks.LeaderMark.{LeaderMark}
 use Rattle.sp_phase.specs.Stage.{Stage, IsStage, Falls, law_of}
 use Rattle.sp_phase.specs.Marks.{light_at, heavy_at}
-use Rattle.sp_phase.specs.declared.sweeping.Bounds.{Bounds}
+use Rattle.sp_phase.specs.declared.sweeping.RelaxedBelow.{RelaxedBelow}
 use Rattle.sp_phase.specs.Running.{IsQueued}
 use Rattle.sp_phase.specs.Sweep.{AreRelaxed, IsCopied, IsSwept}
 use Rattle.sp_phase.specs.Settling.{IsTold, IsSettledExactly, EndsExactly}
@@ -80,7 +80,7 @@ module _ (P : ℕ) (st : Stage) (c : Knowledge) (marks : List LeaderMark) (words
   }
 
   -- the test of a bucket passed
-  module _ (i : ℕ) (b : Bounds) (light : b.light ≡ (i + 1) * st.delta) (heavy : b.heavy ≡ i * st.delta) (all : AreRelaxed words marks b (length words)) where
+  module _ (i : ℕ) (b : RelaxedBelow) (light : b.light ≡ (i + 1) * st.delta) (heavy : b.heavy ≡ i * st.delta) (all : AreRelaxed words marks b (length words)) where
     in_copy : (u : ℕ) → IsVertex st.graph.n u → IsVertex (length words) u
     in_copy u h = subst (λ k. IsVertex k u) (sym copy.size) h
 
@@ -98,7 +98,7 @@ module _ (P : ℕ) (st : Stage) (c : Knowledge) (marks : List LeaderMark) (words
     test_pair law t d p vertex is low =
         law st.graph st.source (max_dist P) st.delta i copy.words (word_at words) (light_at marks) (heavy_at marks) copy.of passes t d p vertex is (subst (λ k. d < k) light low)
 
-  pub test_told : TestedIsSettled → (i : ℕ) (b : Bounds) → b.light ≡ (i + 1) * st.delta → b.heavy ≡ i * st.delta → AreRelaxed words marks b (length words) → IsTold P st (Some i) c
+  pub test_told : TestedIsSettled → (i : ℕ) (b : RelaxedBelow) → b.light ≡ (i + 1) * st.delta → b.heavy ≡ i * st.delta → AreRelaxed words marks b (length words) → IsTold P st (Some i) c
   test_told law i b light heavy all =
       exactly P st copy.stage (known_table c.story) copy.lawful ((i + 1) * st.delta) (settled_known ((i + 1) * st.delta) (test_settled i b light heavy all law))
 
@@ -154,7 +154,7 @@ twice_fits : (P a b : ℕ) → is_layout P ≡ true → a ≤ max_dist P → b �
 twice_fits P a b layout one two =
     by_layout (λ Q. a ≤ max_dist Q → b ≤ max_dist Q → a + b < 18446744073709551616) P layout (λ h k. omega arith) (λ h k. omega arith) (λ h k. omega arith) (λ h k. omega arith) one two
 
-pub bucket_fits : (P : ℕ) (st : Stage) → IsStage P st → (b : Content) (i : ℕ) → b.delta ≡ st.delta → All (IsQueued P st) b.entries → IsLowest b i → i * st.delta + st.delta < 18446744073709551616
+pub bucket_fits : (P : ℕ) (st : Stage) → IsStage P st → (b : BucketsContent) (i : ℕ) → b.delta ≡ st.delta → All (IsQueued P st) b.entries → IsLowest b i → i * st.delta + st.delta < 18446744073709551616
 bucket_fits P st stage b i width all lowest =
     let e : Entry = lowest.here.1 in
     let there = all lowest.here.0 e lowest.here.2 in

@@ -2,11 +2,11 @@
 use Rattle.std.specs.Prelude.{◌≡◌, ℕ, List, [], All}
 use Rattle.sp_word.specs.Word.{Word}
 use Rattle.sp_offer.specs.Story.{Knowledge}
-use Rattle.sp_rounds.specs.Content.{Content}
+use Rattle.sp_rounds.specs.Content.{BucketsContent}
 use Rattle.sp_rounds.specs.declared.task.Task.{Task}
 use Rattle.sp_phase.specs.declared.marks.LeaderMarks.{LeaderMarks}
 use Rattle.sp_phase.specs.Stage.{Stage, Learns}
-use Rattle.sp_phase.specs.Marks.{Noted, notes_of}
+use Rattle.sp_phase.specs.Marks.{NotedMarks, notes_of}
 use Rattle.sp_phase.specs.Rounds.{IsDue}
 
 -- The leader has the store's stage, the caller, what is recorded about the vertices, the queued entries, and a copy of
@@ -14,12 +14,12 @@ use Rattle.sp_phase.specs.Rounds.{IsDue}
 pub record Lead : Type 0 where
   pub stage : Stage
   pub caller : Knowledge
-  pub marks : Noted
-  pub buckets : Content
+  pub marks : NotedMarks
+  pub buckets : BucketsContent
   pub words : List Word
 
 -- This is what contracts see of a leader with these parts.
-abbrev pub lead_of : Stage → Knowledge → LeaderMarks → Content → List Word → Lead
+abbrev pub lead_of : Stage → Knowledge → LeaderMarks → BucketsContent → List Word → Lead
 lead_of st c m b words = record { stage = st; caller = c; marks = notes_of m; buckets = b; words = words }
 
 -- Nothing is remembered any more.

@@ -8,12 +8,12 @@ use Rattle.sp_rounds.specs.declared.task.TaskKind.TheVariants.{Light, Heavy}
 use Rattle.sp_rounds.specs.declared.task.Task.{Task}
 
 -- These are the marks of all vertices, and the vertices that are remembered.
-pub record Noted : Type 0 where
+pub record NotedMarks : Type 0 where
   pub each : List LeaderMark
   pub remembered : List ℕ
 
 -- This is what contracts see of the leader's marks.
-abbrev pub notes_of : LeaderMarks → Noted
+abbrev pub notes_of : LeaderMarks → NotedMarks
 notes_of m = record { each = m.each.items; remembered = m.remembered.items }
 
 -- This is the mark of a vertex that took part in no round.
@@ -50,7 +50,7 @@ abbrev pub SameDistances : (before after : List LeaderMark) → Type 0
 SameDistances before after = (length after ≡ length before) × ((v : ℕ) → IsVertex (length before) v → (light_at after v ≡ light_at before v) × (heavy_at after v ≡ heavy_at before v))
 
 -- The vertex is remembered.
-abbrev pub Remembers : (before after : Noted) → (v : ℕ) → Type 0
+abbrev pub Remembers : (before after : NotedMarks) → (v : ℕ) → Type 0
 Remembers before after v = (after.remembered ≡ before.remembered) ⊎ (after.remembered ≡ before.remembered ++ v ∷ [])
 
 -- The heavy arcs of the vertex are to be relaxed when the bucket is done.
@@ -58,7 +58,7 @@ abbrev pub is_remembered : List LeaderMark → (v : ℕ) → Bool
 is_remembered marks v = (mark_of marks v).remembered
 
 -- The vertex enters a round, and is remembered.
-pub record Enters (before after : Noted) (v : ℕ) : Type 0 where
+pub record Enters (before after : NotedMarks) (v : ℕ) : Type 0 where
   pub flags : (u : ℕ) → IsVertex (length before.each) u → is_remembered after.each u ≡ true → (u ≡ v) ⊎ (is_remembered before.each u ≡ true)
   pub list : ((is_remembered before.each v ≡ true) × (after.remembered ≡ before.remembered)) ⊎ (after.remembered ≡ before.remembered ++ v ∷ [])
 

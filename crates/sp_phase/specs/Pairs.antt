@@ -5,8 +5,8 @@ use Rattle.sp_paths.specs.Paths.{Graph, IsVertex, IsPair, Found, NoWalk, word_at
 use Rattle.sp_paths.specs.Paths.{TooFar as FarVertex}
 use Rattle.sp_answer.specs.declared.answer.RunError.{RunError}
 use Rattle.sp_answer.specs.declared.answer.RunError.TheVariants.{Memory, TooFar, NoSuchVertex}
-use Rattle.sp_phase.specs.declared.advancing.Until.{Until}
-use Rattle.sp_phase.specs.declared.advancing.Until.TheVariants.{Final}
+use Rattle.sp_phase.specs.declared.advancing.AdvanceUntil.{AdvanceUntil}
+use Rattle.sp_phase.specs.declared.advancing.AdvanceUntil.TheVariants.{Final}
 use Rattle.sp_phase.specs.Lead.{Lead}
 use Rattle.sp_phase.specs.Sweep.{HasSwept}
 
@@ -35,7 +35,7 @@ IsBelowDist Unreached end = ⊥
 IsBelowDist (Pair d p) end = d < end
 
 -- This is what a run may continue until: the word of a vertex.
-abbrev pub IsWithinGraph : Graph → Until → Type 0
+abbrev pub IsWithinGraph : Graph → AdvanceUntil → Type 0
 IsWithinGraph g until = (t : ℕ) → until ≡ Final t → IsVertex g.n t
 
 -- The leader's copy has the target's word in the tree; if it has none, no vertex is open in the copy.
@@ -44,5 +44,5 @@ pub record KnowsTarget (P : ℕ) (t : ℕ) (l : Lead) : Type 0 where
   pub none : word_at l.words t ≡ Unreached → HasSwept P l
 
 -- This holds for the target for which the run continued.
-abbrev pub KnowsFinal : (P : ℕ) → Until → Lead → Type 0
+abbrev pub KnowsFinal : (P : ℕ) → AdvanceUntil → Lead → Type 0
 KnowsFinal P until l = (t : ℕ) → until ≡ Final t → KnowsTarget P t l

@@ -9,7 +9,7 @@ use Rattle.sp_phase.specs.Lead.{Lead}
 
 -- The store's stage, and the caller of a run that isn't spent. `settled` is the bucket of the last answer that no round
 -- of heavy arcs has followed yet, and `closed` is the last bucket that was settled and then relaxed heavy.
-pub record Progress : Type 0 where
+pub record RunProgress : Type 0 where
   pub stage : Stage
   pub caller : Option Knowledge
   pub settled : Option ℕ
@@ -25,19 +25,19 @@ abbrev pub MayLead : Stage → Option Lead → Type 0
 MayLead st leader = IfSome leader (λ l. l.stage ≡ st)
 
 -- The run isn't spent: it still has its caller.
-abbrev pub IsUnspent : Progress → Type 0
+abbrev pub IsUnspent : RunProgress → Type 0
 IsUnspent run = IsSome run.caller
 
 -- The run is spent: it has no caller any more.
-abbrev pub IsSpent : Progress → Type 0
+abbrev pub IsSpent : RunProgress → Type 0
 IsSpent run = run.caller ≡ None
 
 -- The same buckets are settled and closed.
-abbrev pub IsAsFar : (before after : Progress) → Type 0
+abbrev pub IsAsFar : (before after : RunProgress) → Type 0
 IsAsFar before after = (after.settled ≡ before.settled) × (after.closed ≡ before.closed)
 
 -- This is the caller's word of the vertex.
-abbrev pub HasRead : Progress → (v : ℕ) → Word → Type 0
+abbrev pub HasRead : RunProgress → (v : ℕ) → Word → Type 0
 HasRead run v word = IsSomeAnd run.caller (λ c. known_table c.story v ≡ word)
 
 -- The refusal is due only to a failed allocation.

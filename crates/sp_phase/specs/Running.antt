@@ -5,9 +5,9 @@ use Rattle.sp_word.specs.Word.{max_dist}
 use Rattle.sp_paths.specs.Paths.{IsVertex}
 use Rattle.sp_offer.specs.Story.{Knowledge, known_table}
 use Rattle.sp_bins.specs.declared.entry.Entry.{Entry}
-use Rattle.sp_rounds.specs.Content.{Content}
+use Rattle.sp_rounds.specs.Content.{BucketsContent}
 use Rattle.sp_phase.specs.Stage.{Stage, IsStage}
-use Rattle.sp_phase.specs.Marks.{Noted}
+use Rattle.sp_phase.specs.Marks.{NotedMarks}
 use Rattle.sp_phase.specs.Rounds.{IsRunning}
 use Rattle.sp_phase.specs.Lead.{Lead}
 
@@ -16,7 +16,7 @@ abbrev pub IsQueued : (P : ℕ) → Stage → Entry → Type 0
 IsQueued P st e = IsVertex st.graph.n e.vertex × (e.dist ≤ max_dist P)
 
 -- The caller belongs to the stage's table, and it made these marks.
-pub record Holds (P : ℕ) (st : Stage) (c : Knowledge) (m : Noted) : Type 0 where
+pub record Holds (P : ℕ) (st : Stage) (c : Knowledge) (m : NotedMarks) : Type 0 where
   pub stage : IsStage P st
   pub table : c.table ≡ st.table
   pub running : IsRunning P st (known_table c.story) m.each
@@ -30,5 +30,5 @@ pub record Leads (P : ℕ) (st : Stage) (l : Lead) : Type 0 where
   pub size : length l.words ≡ st.graph.n
 
 -- The entries are added to the old ones.
-abbrev pub HasPut : List Entry → (old new : Content) → Type 0
+abbrev pub HasPut : List Entry → (old new : BucketsContent) → Type 0
 HasPut entries old new = IsPermutation (old.entries ++ entries) new.entries

@@ -6,9 +6,9 @@ use Rattle.sp_paths.specs.Paths.{Graph, IsVertex, IsTreeWord, EndsInTree, IsSett
 use Rattle.sp_offer.specs.Story.{Knowledge, known_table}
 use Rattle.sp_phase.specs.Stage.{Stage}
 use Rattle.sp_phase.specs.Lead.{Lead}
-use Rattle.sp_phase.specs.Progress.{Progress}
-use Rattle.sp_phase.specs.declared.advancing.Until.{Until}
-use Rattle.sp_phase.specs.declared.advancing.Until.TheVariants.{BucketSettled, Swept, Final}
+use Rattle.sp_phase.specs.Progress.{RunProgress}
+use Rattle.sp_phase.specs.declared.advancing.AdvanceUntil.{AdvanceUntil}
+use Rattle.sp_phase.specs.declared.advancing.AdvanceUntil.TheVariants.{BucketSettled, Swept, Final}
 
 -- Each vertex whose least length is below the bound has its word in the tree, and each pair whose distance is below the
 -- bound is its vertex's word in the tree.
@@ -32,7 +32,7 @@ abbrev pub Tells : (P : ℕ) → Option ℕ → Lead → Type 0
 Tells P bucket l = IsTold P l.stage bucket l.caller
 
 -- This holds for the caller of a run that isn't spent.
-abbrev pub IsToldBy : (P : ℕ) → Option ℕ → Progress → Type 0
+abbrev pub IsToldBy : (P : ℕ) → Option ℕ → RunProgress → Type 0
 IsToldBy P bucket run = IsSomeAnd run.caller (IsTold P run.stage bucket)
 
 -- A bucket that the answer names is later than the closed one, if there is one.
@@ -40,7 +40,7 @@ abbrev pub IsLaterBucket : (closed bucket : Option ℕ) → Type 0
 IsLaterBucket closed bucket = IfSome bucket (λ i. IfSome closed (λ j. j < i))
 
 -- The bucket is later than the closed one that the leader is to leave behind, if there is one.
-abbrev pub IsBeyond : Until → (bucket : ℕ) → Type 0
+abbrev pub IsBeyond : AdvanceUntil → (bucket : ℕ) → Type 0
 IsBeyond (BucketSettled closed) i = IfSome closed (λ j. j < i)
 IsBeyond Swept i = Unit {0}
 IsBeyond (Final t) i = Unit {0}

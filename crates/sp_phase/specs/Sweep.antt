@@ -11,27 +11,27 @@ use Rattle.sp_bins.specs.declared.entry.Entry.{Entry}
 use Rattle.sp_phase.specs.declared.marks.LeaderMark.{LeaderMark}
 use Rattle.sp_phase.specs.Stage.{Stage, IsStage, law_of}
 use Rattle.sp_phase.specs.Marks.{mark_of, light_at, heavy_at}
-use Rattle.sp_phase.specs.declared.sweeping.Bounds.{Bounds}
+use Rattle.sp_phase.specs.declared.sweeping.RelaxedBelow.{RelaxedBelow}
 use Rattle.sp_phase.specs.Lead.{Lead}
 
 -- The mark says that the vertex was relaxed at the distance d, if that is below the bounds.
-abbrev pub IsMarkedAt : LeaderMark → Bounds → (d : ℕ) → Type 0
+abbrev pub IsMarkedAt : LeaderMark → RelaxedBelow → (d : ℕ) → Type 0
 IsMarkedAt m b d = (d < b.light → m.light ≡ Some d) × (d < b.heavy → m.heavy ≡ Some d)
 
 -- The marks say so of this vertex.
-abbrev pub IsRelaxedAtDist : List LeaderMark → Bounds → (u d : ℕ) → Type 0
+abbrev pub IsRelaxedAtDist : List LeaderMark → RelaxedBelow → (u d : ℕ) → Type 0
 IsRelaxedAtDist marks b u d = IsMarkedAt (mark_of marks u) b d
 
 -- This holds for each of the first n vertices at the distance of its word.
-abbrev pub AreRelaxed : List Word → List LeaderMark → Bounds → (n : ℕ) → Type 0
+abbrev pub AreRelaxed : List Word → List LeaderMark → RelaxedBelow → (n : ℕ) → Type 0
 AreRelaxed words marks b n = (u d p : ℕ) → IsVertex n u → word_at words u ≡ Pair d p → IsRelaxedAtDist marks b u d
 
 -- This holds for the vertex at the distance of its word.
-abbrev pub IsRelaxedHere : List Word → List LeaderMark → Bounds → (u : ℕ) → Type 0
+abbrev pub IsRelaxedHere : List Word → List LeaderMark → RelaxedBelow → (u : ℕ) → Type 0
 IsRelaxedHere words marks b u = (d p : ℕ) → word_at words u ≡ Pair d p → IsRelaxedAtDist marks b u d
 
 -- The entry's vertex has its distance, and wasn't relaxed there.
-abbrev pub IsOpen : List Word → List LeaderMark → Bounds → Entry → Type 0
+abbrev pub IsOpen : List Word → List LeaderMark → RelaxedBelow → Entry → Type 0
 IsOpen words marks b e = IsVertex (length words) e.vertex × ((p : ℕ) × (word_at words e.vertex ≡ Pair e.dist p)) × (IsRelaxedAtDist marks b e.vertex e.dist → ⊥)
 
 -- This is a copy of all words. It is lawful, at most what was known when the marks were made, and at least what the
@@ -57,7 +57,7 @@ abbrev pub HasSwept : (P : ℕ) → Lead → Type 0
 HasSwept P l = IsSwept P l.stage l.caller l.marks.each l.words
 
 -- In the leader's copy each vertex was relaxed as far as the bounds require.
-abbrev pub HasRelaxed : Bounds → Lead → Type 0
+abbrev pub HasRelaxed : RelaxedBelow → Lead → Type 0
 HasRelaxed b l = AreRelaxed l.words l.marks.each b (length l.words)
 
 -- The leader copied the words.

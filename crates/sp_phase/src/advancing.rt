@@ -7,7 +7,7 @@ ghost use Rattle.sp_phase.specs.Sweep.{HasSwept};
 ghost use Rattle.sp_phase.specs.Pairs.{IsBelowDist, IsWithinGraph, KnowsFinal, KnowsTarget};
 
 use crate::leader::{Leader, MOST_ROUNDS};
-use crate::sweeping::Bounds;
+use crate::sweeping::RelaxedBelow;
 use sp_graph::look_up;
 use sp_paths::tested_copy;
 use sp_rounds::Gate;
@@ -17,7 +17,7 @@ use std::thread::Threads;
 
 /// The point up to which a leader advances.
 #[derive(Clone, Copy, Debug)]
-pub(crate) enum Until {
+pub(crate) enum AdvanceUntil {
     /// Until a bucket later than this one, the last that is closed, is final, or all words are. Each bucket is tested by
     /// a copy of all words, and heavy arcs are left.
     BucketSettled(Option<u64>),
@@ -38,13 +38,13 @@ pub(crate) struct Settled<'a, 'g, const P: u32> {
 
 // Below the end of a bucket each vertex must have been relaxed light at its distance, and below its beginning heavy
 // too.
-fn bounds_of(bucket: u64, delta: u64) -> Bounds
+fn bounds_of(bucket: u64, delta: u64) -> RelaxedBelow
     requires { bucket * delta + delta < 18446744073709551616 }
     ensures light { result.light ≡ (bucket + 1) * delta }
     ensures heavy { result.heavy ≡ bucket * delta }
 {
     let heavy = bucket * delta;
-    Bounds {
+    RelaxedBelow {
         light: heavy + delta,
         heavy,
     }
@@ -131,13 +131,13 @@ impl<'a, 'g, const P: u32> Leader<'a, 'g, P> {
         self,
         rt: &R,
         gate: &G,
-        until: Until,
+        until: AdvanceUntil,
     ) -> Result<Leader<'a, 'g, P>, AllocError>
         ensures { IfOk result (λ after. after.stage ≡ self.entry.stage) }
     {
         match until {
-            Until::BucketSettled(_) => Ok(self),
-            Until::Swept | Until::Final(_) => self.heavy_round(rt, gate),
+            AdvanceUntil::BucketSettled(_) => Ok(self),
+            AdvanceUntil::Swept | AdvanceUntil::Final(_) => self.heavy_round(rt, gate),
         }
     }
 
@@ -147,7 +147,7 @@ impl<'a, 'g, const P: u32> Leader<'a, 'g, P> {
         mut self,
         rt: &R,
         gate: &G,
-        until: Until,
+        until: AdvanceUntil,
         bucket: Option<u64>,
     ) -> Result<(Leader<'a, 'g, P>, bool), AllocError>
         requires lowest { IfSome bucket (IsLowest self.buckets) }
@@ -156,7 +156,7 @@ impl<'a, 'g, const P: u32> Leader<'a, 'g, P> {
         ensures told { IfOk result (λ done. IsTrue done.1 → Tells P bucket done.0) }
         ensures later { IfOk result (λ done. IsTrue done.1 → IfSome bucket (IsBeyond until)) }
         ensures swept { IfOk result (λ done. IsTrue done.1 → IfNone bucket (HasSwept P done.0)) }
-        ensures whole { IfOk result (λ done. IsTrue done.1 → until ≡ Until.Swept → bucket ≡ None) }
+        ensures whole { IfOk result (λ done. IsTrue done.1 → until ≡ AdvanceUntil.Swept → bucket ≡ None) }
         ensures target { IfOk result (λ done. IsTrue done.1 → KnowsFinal P until done.0) }
     {
         match bucket {
@@ -165,9 +165,9 @@ impl<'a, 'g, const P: u32> Leader<'a, 'g, P> {
                 Ok((self, none))
             }
             Some(lowest) => match until {
-                Until::BucketSettled(closed) => self.settle_bucket(rt, gate, closed, lowest),
-                Until::Final(target) => self.settle_target(rt, gate, lowest, target),
-                Until::Swept => {
+                AdvanceUntil::BucketSettled(closed) => self.settle_bucket(rt, gate, closed, lowest),
+                AdvanceUntil::Final(target) => self.settle_target(rt, gate, lowest, target),
+                AdvanceUntil::Swept => {
                     let leader = self.empty_bucket(rt, gate, lowest)?;
                     Ok((leader, false))
                 }
@@ -180,14 +180,14 @@ impl<'a, 'g, const P: u32> Leader<'a, 'g, P> {
         mut self,
         rt: &R,
         gate: &G,
-        until: Until,
+        until: AdvanceUntil,
     ) -> Result<Settled<'a, 'g, P>, AllocError>
         requires { IsWithinGraph self.stage.graph until }
         ensures stage { IfOk result (λ done. done.leader.stage ≡ self.entry.stage) }
         ensures told { IfOk result (λ done. Tells P done.bucket done.leader) }
         ensures later { IfOk result (λ done. IfSome done.bucket (IsBeyond until)) }
         ensures swept { IfOk result (λ done. IfNone done.bucket (HasSwept P done.leader)) }
-        ensures whole { IfOk result (λ done. until ≡ Until.Swept → done.bucket ≡ None) }
+        ensures whole { IfOk result (λ done. until ≡ AdvanceUntil.Swept → done.bucket ≡ None) }
         ensures target { IfOk result (λ done. KnowsFinal P until done.leader) }
     {
         for _ in 0..MOST_ROUNDS {

@@ -5,7 +5,7 @@ ghost use Rattle.sp_paths.specs.Paths.{IsVertex};
 ghost use Rattle.sp_phase.specs.Stage.{IsStage};
 ghost use Rattle.sp_phase.specs.Pairs.{IsPairAnswer, IsPairRefusal, KnowsTarget};
 
-use crate::advancing::Until;
+use crate::advancing::AdvanceUntil;
 use crate::leader::Leader;
 use crate::run::RunStart;
 use crate::store::Store;
@@ -108,7 +108,7 @@ fn run_stored_pair<const P: u32, R: Threads + Sync, G: Gate + Sync>(
         return Err(RunError::Memory);
     };
     let leader = leader.with_workers(start.workers);
-    match leader.advance(rt, gate, Until::Final(target)) {
+    match leader.advance(rt, gate, AdvanceUntil::Final(target)) {
         Err(_) => Err(RunError::Memory),
         Ok(settled) => settled.leader.pair_answer(target),
     }

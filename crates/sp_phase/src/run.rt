@@ -8,7 +8,7 @@ ghost use Rattle.sp_phase.specs.Sweep.{HasWords};
 ghost use Rattle.sp_phase.specs.Progress.{IsMemory, IsUnspent, IsSpent, IsAsFar, HasRead};
 ghost use Rattle.sp_phase.specs.Settling.{IsToldBy, IsLaterBucket};
 
-use crate::advancing::{Settled, Until};
+use crate::advancing::{AdvanceUntil, Settled};
 use crate::leader::Leader;
 use crate::store::Store;
 use sp_answer::{RunError, Tree};
@@ -42,9 +42,9 @@ pub struct Run<'a, 'g, const P: u32> {
 
 impl<'a, 'g, const P: u32> Model for Run<'a, 'g, P> {
     ghost use Rattle.sp_phase.specs.Stage.{IsStage};
-    ghost use Rattle.sp_phase.specs.Progress.{Progress, caller_of, MayLead};
+    ghost use Rattle.sp_phase.specs.Progress.{RunProgress, caller_of, MayLead};
 
-    ghost Value = { Progress };
+    ghost Value = { RunProgress };
 
     ghost view = { λ r. record {
       stage = r.store.now;
@@ -111,7 +111,7 @@ impl<'a, 'g, const P: u32> Run<'a, 'g, P> {
         let Some(leader) = self.leader.take() else {
             return Err(RunError::Memory);
         };
-        match leader.advance(rt, gate, Until::BucketSettled(self.closed)) {
+        match leader.advance(rt, gate, AdvanceUntil::BucketSettled(self.closed)) {
             Err(_) => Err(RunError::Memory),
             Ok(settled) => {
                 let Settled { leader, bucket } = settled;
@@ -199,7 +199,7 @@ impl<'a, 'g, const P: u32> Run<'a, 'g, P> {
         let Run { leader, .. } = self;
         match leader {
             None => Err(RunError::Memory),
-            Some(leader) => match leader.advance(rt, gate, Until::Swept) {
+            Some(leader) => match leader.advance(rt, gate, AdvanceUntil::Swept) {
                 Err(_) => Err(RunError::Memory),
                 Ok(settled) => settled.leader.answer(),
             },

@@ -16,13 +16,13 @@ use std::alloc::{AllocError, Global};
 
 /// The bounds below which a vertex must have been relaxed at its distance.
 #[derive(Clone, Copy, Debug)]
-pub(crate) struct Bounds {
+pub(crate) struct RelaxedBelow {
     pub light: u64,
     pub heavy: u64,
 }
 
 // Returns whether a vertex was relaxed at its distance.
-fn is_relaxed(dist: u64, mark: &LeaderMark, bounds: Bounds) -> bool
+fn is_relaxed(dist: u64, mark: &LeaderMark, bounds: RelaxedBelow) -> bool
     ensures { IsTrue result ↔ IsMarkedAt mark.now bounds dist }
 {
     (dist >= bounds.light || mark.light == Some(dist))
@@ -38,7 +38,7 @@ fn mark_of(marks: &[LeaderMark], vertex: u32) -> LeaderMark
 }
 
 // Returns the entry of a vertex that wasn't relaxed at this distance.
-fn open_at(vertex: u32, dist: u64, mark: &LeaderMark, bounds: Bounds) -> Option<Entry>
+fn open_at(vertex: u32, dist: u64, mark: &LeaderMark, bounds: RelaxedBelow) -> Option<Entry>
     ensures none { IfNone result (IsMarkedAt mark.now bounds dist) }
     ensures is { IfSome result (λ e. e ≡ record { vertex = vertex; dist = dist }) }
     ensures open { IfSome result (λ _. IsMarkedAt mark.now bounds dist → ⊥) }
@@ -54,7 +54,7 @@ fn open_at(vertex: u32, dist: u64, mark: &LeaderMark, bounds: Bounds) -> Option<
 fn open_entry<const P: u32>(
     words: &[Word<P>],
     marks: &[LeaderMark],
-    bounds: Bounds,
+    bounds: RelaxedBelow,
     vertex: u32,
 ) -> Option<Entry>
     requires vertex { IsVertex (length words.now) vertex }
@@ -75,7 +75,7 @@ fn open_entries<const P: u32>(
     alloc: Global,
     words: &[Word<P>],
     marks: &[LeaderMark],
-    bounds: Bounds,
+    bounds: RelaxedBelow,
 ) -> Result<Vec<Entry>, AllocError>
     requires size { length words.now ≡ length marks.now }
     requires few { length words.now < 4294967296 }
@@ -100,7 +100,7 @@ impl<'a, 'g, const P: u32> Leader<'a, 'g, P> {
     }
 
     /// Copies all words, queues each vertex that wasn't relaxed at its distance, and returns whether there is none.
-    pub(crate) fn queue_open(&mut self, bounds: Bounds) -> Result<bool, AllocError>
+    pub(crate) fn queue_open(&mut self, bounds: RelaxedBelow) -> Result<bool, AllocError>
         ensures stage { self.new.stage ≡ self.old.stage }
         ensures copied { OnOk result (HasCopied P self.new) }
         ensures none { IfOk result (λ none. IsTrue none → HasRelaxed bounds self.new) }
@@ -120,7 +120,7 @@ impl<'a, 'g, const P: u32> Leader<'a, 'g, P> {
         ensures told { IfOk result (λ none. IsTrue none → Tells P None self.new) }
     {
         swept_copy();
-        let every = Bounds {
+        let every = RelaxedBelow {
             light: u64::MAX,
             heavy: u64::MAX,
         };

@@ -1,7 +1,7 @@
 -- The marks of a run: what each of its steps did.
 use Rattle.std.specs.Prelude.{◌≡◌, ℕ, List, [], ◌∷◌, nat_eq, if◌then◌else◌, Option, Some, None}
-use Rattle.sp_machine.specs.declared.effect.Exchange.{Exchange}
-use Rattle.sp_machine.specs.declared.effect.Exchange.TheVariants.{Won as IsWon, Lost as IsLost}
+use Rattle.sp_machine.specs.declared.effect.ExchangeOutcome.{ExchangeOutcome}
+use Rattle.sp_machine.specs.declared.effect.ExchangeOutcome.TheVariants.{Won as IsWon, Lost as IsLost}
 use Rattle.sp_machine.specs.declared.effect.Call.{Call}
 use Rattle.sp_machine.specs.declared.effect.Call.TheVariants.{Offer, Read}
 use Rattle.sp_machine.specs.declared.effect.Ended.{Ended}
@@ -21,7 +21,7 @@ marks_from m [] = []
 marks_from m (actor ∷ more) = mark_of m actor ∷ marks_from (machine_after m actor) more
 
 -- This is what a step was, given its exchange, if it made one, and the vertex whose word it looked at.
-abbrev pub deed_by : (exchange : Option Exchange) → (vertex : ℕ) → Deed
+abbrev pub deed_by : (exchange : Option ExchangeOutcome) → (vertex : ℕ) → Deed
 deed_by None vertex = if nat_eq vertex 0 then Rest else Load
 deed_by (Some IsWon) vertex = Won
 deed_by (Some IsLost) vertex = Lost

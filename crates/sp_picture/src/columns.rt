@@ -21,7 +21,7 @@ pub(crate) fn nearest(end: u64) -> u64 {
 
 /// An item that reaches from one step to another, with its width.
 #[derive(Clone, Copy)]
-pub(crate) struct Span {
+pub(crate) struct StepSpan {
     /// The step where it begins; 0 is where the lanes begin.
     pub from: u64,
     /// The later step before which it ends, or the end of the lanes.
@@ -31,7 +31,7 @@ pub(crate) struct Span {
 }
 
 // Returns the place of the next step: as far left as the steps before it and the items that end before it allow.
-fn next_place(places: &[u64], spans: &[Span], least: u64) -> u64 {
+fn next_place(places: &[u64], spans: &[StepSpan], least: u64) -> u64 {
     let step = places.len() as u64;
     let mut place = places.last().copied().unwrap_or(0).saturating_add(least);
     for span in spans {
@@ -45,7 +45,11 @@ fn next_place(places: &[u64], spans: &[Span], least: u64) -> u64 {
 
 /// Returns where the lanes begin, the middle of each step, and where the lanes end, all measured from where the lanes
 /// begin.
-pub(crate) fn places_of(alloc: Global, steps: u64, spans: &[Span]) -> Result<Vec<u64>, AllocError> {
+pub(crate) fn places_of(
+    alloc: Global,
+    steps: u64,
+    spans: &[StepSpan],
+) -> Result<Vec<u64>, AllocError> {
     let least = nearest(steps.saturating_add(1));
     let mut places = Vec::new(alloc);
     places.push(0)?;

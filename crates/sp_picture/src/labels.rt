@@ -1,9 +1,9 @@
 //! The labels of calls, below or above their bars.
 
-use crate::columns::{Span, nearest};
+use crate::columns::{StepSpan, nearest};
 use crate::layout::Layout;
 use crate::shown::CallShown;
-use crate::texts::{LINE, Text, draw_lines, room_for};
+use crate::texts::{LINE, StepText, draw_lines, room_for};
 use sp_machine::Finished;
 use std::alloc::{AllocError, Global};
 
@@ -32,7 +32,7 @@ pub(crate) struct Label {
     /// The side on which the label is drawn.
     pub side: Side,
     /// Its text.
-    pub text: Text,
+    pub text: StepText,
 }
 
 // Returns whether the label, in one line, ends before this step even if columns are no wider than this.
@@ -77,14 +77,17 @@ pub(crate) fn labels_of<const P: u32>(
         end_others(&mut labels, actor, side, first);
         let shown = CallShown { call: *call };
         let whole = format!(in alloc; "{shown}")?;
-        let text = Text::new(alloc, first, end, whole);
+        let text = StepText::new(alloc, first, end, whole);
         labels.push(Label { actor, side, text })?;
     }
     Ok(labels)
 }
 
 /// Adds the least widths that the labels need.
-pub(crate) fn add_label_spans(spans: &mut Vec<Span>, labels: &[Label]) -> Result<(), AllocError> {
+pub(crate) fn add_label_spans(
+    spans: &mut Vec<StepSpan>,
+    labels: &[Label],
+) -> Result<(), AllocError> {
     for label in labels {
         spans.push(label.text.span())?;
     }

@@ -4,7 +4,7 @@ ghost use Rattle.sp_machine.specs.Programme.{IsNumber};
 ghost use Rattle.sp_machine.specs.Run.{opening_machine};
 ghost use Rattle.sp_picture.specs.Marks.{marks_from, offered_by};
 
-use sp_machine::{Call, Effect, Ended, Exchange, Programme};
+use sp_machine::{Call, Effect, Ended, ExchangeOutcome, Programme};
 use sp_word::Word;
 use std::alloc::{AllocError, Global};
 
@@ -40,8 +40,8 @@ impl<const P: u32> StepMark<P> {
         ensures { result ≡ deed_of self.now }
     {
         match self.effect.exchange {
-            Some(Exchange::Won) => Deed::Won,
-            Some(Exchange::Lost) => Deed::Lost,
+            Some(ExchangeOutcome::Won) => Deed::Won,
+            Some(ExchangeOutcome::Lost) => Deed::Lost,
             None if self.vertex == 0 => Deed::Rest,
             None => Deed::Load,
         }

@@ -34,7 +34,7 @@ pub struct Picture<const P: u32> {
 
 // What is drawn for a run, with its layout.
 #[derive(Drop)]
-struct Plan<const P: u32> {
+struct PicturePlan<const P: u32> {
     lanes: Vec<Lane<P>>,
     labels: Vec<Label>,
     layout: Layout,
@@ -65,7 +65,7 @@ fn plan_of<const P: u32>(
     alloc: Global,
     programme: &Programme<P>,
     drawing: &Drawing<P>,
-) -> Result<Plan<P>, AllocError> {
+) -> Result<PicturePlan<P>, AllocError> {
     let marks = drawing.marks.as_slice();
     let steps = marks.len() as u64;
     let mut lanes = lanes_of(alloc, programme, marks)?;
@@ -78,7 +78,7 @@ fn plan_of<const P: u32>(
     wrap_words(alloc, &mut lanes, &places)?;
     let (cell, words) = (cell_height(&lanes), lanes.len());
     let layout = Layout::new(alloc, places, cell, words, programme.actors(), &labels)?;
-    Ok(Plan {
+    Ok(PicturePlan {
         lanes,
         labels,
         layout,

@@ -1,9 +1,9 @@
 //! The contents of words, from each store to the next.
 
-use crate::columns::Span;
+use crate::columns::StepSpan;
 use crate::marks::StepMark;
 use crate::shown::WordShown;
-use crate::texts::{LINE, Text};
+use crate::texts::{LINE, StepText};
 use sp_machine::Programme;
 use sp_word::Word;
 use std::alloc::{AllocError, Global};
@@ -14,7 +14,7 @@ pub(crate) struct Stretch<const P: u32> {
     /// What it holds.
     pub word: Word<P>,
     /// Its text, from the first of these steps to the other.
-    pub text: Text,
+    pub text: StepText,
 }
 
 /// A word that has a lane.
@@ -37,7 +37,7 @@ fn stretch_of<const P: u32>(
     let whole = format!(in alloc; "{shown}")?;
     Ok(Stretch {
         word,
-        text: Text::new(alloc, since, until, whole),
+        text: StepText::new(alloc, since, until, whole),
     })
 }
 
@@ -93,7 +93,10 @@ pub(crate) fn lanes_of<const P: u32>(
 }
 
 // Adds the least widths that the texts of a lane need.
-fn add_lane_spans<const P: u32>(spans: &mut Vec<Span>, lane: &Lane<P>) -> Result<(), AllocError> {
+fn add_lane_spans<const P: u32>(
+    spans: &mut Vec<StepSpan>,
+    lane: &Lane<P>,
+) -> Result<(), AllocError> {
     for stretch in &lane.stretches {
         spans.push(stretch.text.span())?;
     }
@@ -102,7 +105,7 @@ fn add_lane_spans<const P: u32>(spans: &mut Vec<Span>, lane: &Lane<P>) -> Result
 
 /// Adds the least widths that the texts of these lanes need.
 pub(crate) fn add_word_spans<const P: u32>(
-    spans: &mut Vec<Span>,
+    spans: &mut Vec<StepSpan>,
     lanes: &[Lane<P>],
 ) -> Result<(), AllocError> {
     for lane in lanes {

@@ -1,6 +1,6 @@
 //! Texts that reach from one step to another, in as many lines as they need there.
 
-use crate::columns::{Span, room_between};
+use crate::columns::{StepSpan, room_between};
 use std::alloc::{AllocError, Global};
 
 // Ten times the width of a character, in a font whose characters all have the same width.
@@ -17,7 +17,7 @@ pub(crate) const LINE: u64 = 12;
 
 /// A text that begins at one step and ends before another.
 #[derive(Drop)]
-pub(crate) struct Text {
+pub(crate) struct StepText {
     /// The step where it begins; 0 is where the lanes begin.
     pub from: u64,
     /// The later step before which it ends, or the end of the lanes.
@@ -28,10 +28,10 @@ pub(crate) struct Text {
     pub lines: Vec<String>,
 }
 
-impl Text {
+impl StepText {
     /// Makes a text without lines.
-    pub(crate) fn new(alloc: Global, from: u64, until: u64, whole: String) -> Text {
-        Text {
+    pub(crate) fn new(alloc: Global, from: u64, until: u64, whole: String) -> StepText {
+        StepText {
             from,
             until,
             whole,
@@ -40,8 +40,8 @@ impl Text {
     }
 
     /// Returns the least width that it needs: room for its longest part.
-    pub(crate) fn span(&self) -> Span {
-        Span {
+    pub(crate) fn span(&self) -> StepSpan {
+        StepSpan {
             from: self.from,
             until: self.until,
             width: room_for(longest_part(&self.whole)),

@@ -8,7 +8,7 @@ use Rattle.std.specs.Prelude.{slice_index, OnOk}
 use Rattle.sp_word.specs.Word.{Word, Pair}
 use Rattle.sp_machine.specs.declared.item.Item.{Item}
 use Rattle.sp_machine.specs.Programme.{row_of}
-use Rattle.sp_text.specs.Text.{Item as Line, is_named}
+use Rattle.sp_text.specs.Text.{ItemLine as Line, is_named}
 use Rattle.sp_replay.specs.Replay.{named_by, items_of_form, item_for, step_by, IsReplay, AreKept}
 
 flat_push : {A B : Type 0} (f : A → List B) (xs : List A) (x : A) → flat_map f (xs ++ x ∷ []) ≡ flat_map f xs ++ f x

@@ -9,7 +9,7 @@ use Rattle.sp_offer.specs.Story.{Knowledge, known_table, copied_word}
 use Rattle.sp_offer.specs.Ending.{IsEnd}
 use Rattle.sp_offer.proofs.Orders.{at_most-trans}
 use Rattle.sp_offer.proofs.Histories.{known_run, falls_along}
-use Rattle.sp_tie.proofs.Runs.{end_is_run}
+use Rattle.sp_replay.proofs.CallerRuns.{end_is_run}
 use Rattle.sp_replay.specs.Least.{IsOffered, IsLeastOffer, AreLeast}
 use Rattle.sp_replay.specs.Made.{KnowsOffers}
 use Rattle.sp_replay.specs.Ran.{AreLeftByRun}

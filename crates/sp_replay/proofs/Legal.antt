@@ -8,7 +8,7 @@ use Rattle.std.proofs.lemmas.List.{get_or_past}
 use Rattle.std.proofs.lemmas.List.Elements.{All-nil, All-cons, All-head, All-tail, All-append}
 use Rattle.sp_text.specs.declared.formats.Top.TheVariants.{Problem}
 use Rattle.sp_text.specs.Formats.{LineForm, field, ranges_of}
-use Rattle.sp_text.specs.Text.{Item as Line, first_out}
+use Rattle.sp_text.specs.Text.{ItemLine as Line, first_out}
 use Rattle.sp_text.specs.Accepted.{IsAllowed, IsAccepted}
 use Rattle.sp_machine.specs.declared.item.Item.{Item}
 use Rattle.sp_machine.specs.Programme.{Programme, IsNumber, IsItem, IsProgramme}

@@ -5,4 +5,8 @@ pub mod KeepSteps
 pub mod Legal
 pub mod ReachedWords
 pub mod Making
+pub mod CallerRows
+pub mod CallerSteps
+pub mod SingleSteps
+pub mod CallerRuns
 pub mod LeastWords

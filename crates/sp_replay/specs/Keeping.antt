@@ -1,7 +1,7 @@
 -- What a keeper has of the lines so far.
 use Rattle.std.specs.Prelude.{◌≡◌, ◌==◌, ℕ, true, List, [], ◌∷◌, ◌++◌, map, nat_eq, if◌then◌else◌}
 use Rattle.std.specs.HashSet.{contains}
-use Rattle.sp_text.specs.Text.{Item as Line}
+use Rattle.sp_text.specs.Text.{ItemLine as Line}
 use Rattle.sp_word.specs.Word.{Word}
 use Rattle.sp_machine.specs.Programme.{Programme}
 use Rattle.sp_replay.specs.declared.keeper.Keeper.{Keeper}

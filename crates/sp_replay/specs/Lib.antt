@@ -7,5 +7,6 @@ pub mod Offers
 pub mod OfferKeeping
 pub mod ReportText
 pub mod Least
+pub mod CallerRuns
 pub mod Ran
 pub mod Made

@@ -1,6 +1,6 @@
 -- What a keeper of offers has of the lines so far.
 use Rattle.std.specs.Prelude.{ℕ, ◌≤◌, List, [], map}
-use Rattle.sp_text.specs.Text.{Item as Line}
+use Rattle.sp_text.specs.Text.{ItemLine as Line}
 use Rattle.sp_machine.specs.Programme.{Programme}
 use Rattle.sp_replay.specs.declared.offers.OfferKeeper.{OfferKeeper}
 use Rattle.sp_replay.specs.declared.offers.OfferParts.{OfferParts}

@@ -2,7 +2,7 @@
 use Rattle.std.specs.Prelude.{◌≡◌, ◌≤◌, ℕ, Bool, List, [], ◌∷◌, ◌==◌, length, slice_index, if◌then◌else◌, Option, Result}
 use Rattle.std.specs.List.{flat_map}
 use Rattle.sp_text.specs.declared.faults.DimacsError.{DimacsError}
-use Rattle.sp_text.specs.Text.{Item as Line, Spells, judge}
+use Rattle.sp_text.specs.Text.{ItemLine as Line, Spells, judge}
 use Rattle.sp_text.specs.Collecting.{SpelledBy}
 use Rattle.sp_text.specs.Whole.{AllRead}
 use Rattle.sp_text.specs.Formats.{ranges_of}

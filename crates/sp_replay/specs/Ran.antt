@@ -5,7 +5,7 @@ use Rattle.sp_machine.specs.Programme.{Programme}
 use Rattle.sp_offer.specs.Order.{lawful}
 use Rattle.sp_offer.specs.Story.{Knowledge}
 use Rattle.sp_offer.specs.Ending.{IsEnd}
-use Rattle.sp_tie.specs.Tie.{IsRunOf}
+use Rattle.sp_replay.specs.CallerRuns.{IsRunOf}
 use Rattle.sp_replay.specs.Least.{IsOffered}
 
 -- Callers whose offers are the programme's left the words at a table, and what they did there, step by step, is a run of

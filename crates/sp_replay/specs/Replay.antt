@@ -5,7 +5,7 @@ use Rattle.sp_word.specs.Word.{Word, Pair}
 use Rattle.sp_machine.specs.declared.item.Item.{Item}
 use Rattle.sp_machine.specs.declared.item.Item.TheVariants.{Offer, Read, Relax}
 use Rattle.sp_machine.specs.Programme.{Programme, IsNumber, row_of}
-use Rattle.sp_text.specs.Text.{Item as Line, is_named}
+use Rattle.sp_text.specs.Text.{ItemLine as Line, is_named}
 
 -- This is the number of a line at this index.
 abbrev pub number : ℕ → Line → ℕ

@@ -1,7 +1,7 @@
 -- What a replay file holds.
 use Rattle.std.specs.Prelude.{ℕ, Bool, List, Option, Result}
 use Rattle.sp_text.specs.declared.faults.DimacsError.{DimacsError}
-use Rattle.sp_text.specs.Text.{Item as Line, Spells, judge}
+use Rattle.sp_text.specs.Text.{ItemLine as Line, Spells, judge}
 use Rattle.sp_text.specs.Collecting.{SpelledBy}
 use Rattle.sp_text.specs.Whole.{AllRead}
 use Rattle.sp_text.specs.Formats.{ranges_of}

@@ -3,4 +3,4 @@
 mod law;
 mod rows;
 mod threads;
-pub(crate) mod words;
+pub(crate) mod words_left;

@@ -3,7 +3,7 @@ ghost use Rattle.std.specs.Prelude.{◌≡◌, ℕ, ◌+◌, ◌≤◌, ◌∷�
 ghost use Rattle.sp_word.specs.Word.{Pair, is_layout};
 ghost use Rattle.sp_text.specs.Keeping.{CanKeep};
 ghost use Rattle.sp_text.specs.Formats.{ranges_of};
-ghost use Rattle.sp_text.specs.Text.{Item as Line};
+ghost use Rattle.sp_text.specs.Text.{ItemLine as Line};
 ghost use Rattle.sp_replay.specs.ReplayFormat.{replay};
 ghost use Rattle.sp_replay.specs.Replay.{offer_of};
 

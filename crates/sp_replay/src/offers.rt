@@ -1,7 +1,7 @@
 //! Offers files.
 ghost use Rattle.std.specs.Prelude.{◌≡◌, ℕ, List, [], IfOk, IfErr, Some, true, false};
 ghost use Rattle.sp_word.specs.Word.{is_layout};
-ghost use Rattle.sp_text.specs.Text.{Item as Line};
+ghost use Rattle.sp_text.specs.Text.{ItemLine as Line};
 ghost use Rattle.sp_text.specs.Whole.{NeverRead};
 ghost use Rattle.sp_replay.specs.Offers.{IsOffersFile, OffersRead};
 

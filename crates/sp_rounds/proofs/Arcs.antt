@@ -9,7 +9,7 @@ use Rattle.sp_offer.specs.Story.{Knowledge}
 use Rattle.sp_bins.specs.declared.entry.Entry.{Entry}
 use Rattle.sp_graph.specs.RowsValue.{Split}
 use Rattle.sp_rounds.specs.declared.task.Task.{Task}
-use Rattle.sp_rounds.specs.Offers.{Asked, arcs_of, offer_along, offers_along}
+use Rattle.sp_rounds.specs.Offers.{AskedOffer, arcs_of, offer_along, offers_along}
 use Rattle.sp_rounds.specs.Work.{MadeOffers, jobs_of, offers_at}
 use Rattle.sp_rounds.proofs.WorkerSteps.{offers_at-is}
 use Rattle.sp_rounds.proofs.CallsInRow.{map-append, offers_more}
@@ -66,5 +66,5 @@ module _ (law : ℕ → Word → Type 0) (max d : ℕ) where
 pub task_made : (law : ℕ → Word → Type 0) (max : ℕ) (rows : Split) (tasks : List Task) (k : ℕ) (t : Task) (arcs : List Arc) (a b : Knowledge) (f f' g : List Entry) → k < length tasks
     → arcs ≡ arcs_of rows (get_or tasks k t) → f' ≡ f → MadeOffers law (offers_along max (get_or tasks k t).dist arcs) a b f' g → MadeOffers law (offers_at (jobs_of max rows tasks) k) a b f g
 task_made law max rows tasks k t arcs a b f f' g low row same made =
-    subst (λ (xs : List Asked). MadeOffers law xs a b f g) (ap (offers_along max (get_or tasks k t).dist) row ∙ sym (offers_at-is max rows tasks k t low))
+    subst (λ (xs : List AskedOffer). MadeOffers law xs a b f g) (ap (offers_along max (get_or tasks k t).dist) row ∙ sym (offers_at-is max rows tasks k t low))
     (subst (λ (bag : List Entry). MadeOffers law (offers_along max (get_or tasks k t).dist arcs) a b bag g) same made)

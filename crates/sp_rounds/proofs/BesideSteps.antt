@@ -9,7 +9,7 @@ use Rattle.std.proofs.lemmas.Bool.{eqb-false}
 use Rattle.std.proofs.lemmas.List.Elements.{All-cons, All-append, All-weaker, All-head}
 use Rattle.std.proofs.lemmas.List.Sorted.{IsPermutation-trans, IsPermutation-append_left, All-permutation}
 use Rattle.sp_bins.specs.declared.entry.Entry.{Entry}
-use Rattle.sp_rounds.specs.Content.{bucket_of, Content, Puts, Takes, IsLowest}
+use Rattle.sp_rounds.specs.Content.{bucket_of, BucketsContent, Puts, Takes, IsLowest}
 use Rattle.sp_rounds.specs.Beside.{both, AreApart}
 use Rattle.sp_rounds.proofs.Shuffles.{one_more_behind, to_front}
 use Rattle.sp_rounds.proofs.EntryPlaces.{Any-before, Any-behind, All-behind, empty_is}
@@ -27,7 +27,7 @@ NotBelow delta i e = i ≤ bucket_of delta e
 abbrev pub IsAlone : ℕ → List Entry → Entry → Type 0
 IsAlone delta fs e = All (λ (f : Entry). bucket_of delta e ≢ bucket_of delta f) fs
 
-module _ (ring map : Content) (is : AreApart ring map) where
+module _ (ring map : BucketsContent) (is : AreApart ring map) where
   -- the ring's entries of another bucket, by the width of the map
   of_another : (i : ℕ) (es : List Entry) → All (IsOfAnother ring.delta i) es → All (IsOfAnother map.delta i) es
   of_another i es all = subst (λ (n : ℕ). All (IsOfAnother n i) es) is.width all
@@ -41,9 +41,9 @@ module _ (ring map : Content) (is : AreApart ring map) where
       is.apart k d inside held.0 held.1 held.2 (here_too ∙ sym held.4 ∙ ap (bucket_of map.delta) (sym here))
 
   -- an entry comes into the ring, or nothing changes
-  pub put_in_ring : (r : Result (Unit {0}) AllocError) (x : Entry) (i : ℕ) (new : Content) → i ≡ bucket_of map.delta x → All (IsOfAnother map.delta i) map.entries
+  pub put_in_ring : (r : Result (Unit {0}) AllocError) (x : Entry) (i : ℕ) (new : BucketsContent) → i ≡ bucket_of map.delta x → All (IsOfAnother map.delta i) map.entries
       → OnOk r (Puts x ring new) → OnErr r (new ≡ ring) → AreApart new map × OnOk r (Puts x (both ring map) (both new map))
-  put_in_ring (Err e) x i new at free put refused = (subst (λ (s : Content). AreApart s map) (sym refused) is, tt)
+  put_in_ring (Err e) x i new at free put refused = (subst (λ (s : BucketsContent). AreApart s map) (sym refused) is, tt)
   put_in_ring (Ok done) x i new at free put refused =
       let alone : IsAlone map.delta map.entries x = λ k d inside same. free k d inside (sym (at ∙ same)) in (
         record {
@@ -55,7 +55,7 @@ module _ (ring map : Content) (is : AreApart ring map) where
       )
 
   -- an entry comes into the map, or nothing changes
-  pub put_in_map : (r : Result (Unit {0}) AllocError) (x : Entry) (i : ℕ) (new : Content) → i ≡ bucket_of map.delta x → All (IsOfAnother ring.delta i) ring.entries
+  pub put_in_map : (r : Result (Unit {0}) AllocError) (x : Entry) (i : ℕ) (new : BucketsContent) → i ≡ bucket_of map.delta x → All (IsOfAnother ring.delta i) ring.entries
       → OnOk r (Puts x map new) → OnErr r (new ≡ map) → AreApart ring new × OnOk r (Puts x (both ring map) (both ring new))
   put_in_map (Err e) x i new at free put refused = (subst (AreApart ring) (sym refused) is, tt)
   put_in_map (Ok done) x i new at free put refused =
@@ -70,7 +70,7 @@ module _ (ring map : Content) (is : AreApart ring map) where
       )
 
   -- a bucket is taken out of the ring
-  pub take_from_ring : (i : ℕ) (taken : List Entry) (new : Content) → taken ≢ [] → Takes i taken ring new
+  pub take_from_ring : (i : ℕ) (taken : List Entry) (new : BucketsContent) → taken ≢ [] → Takes i taken ring new
       → AreApart new map × Takes i taken (both ring map) (both new map)
   take_from_ring i [] new some took = absurd (some refl)
   take_from_ring i (x ∷ rest) new some took =
@@ -94,7 +94,7 @@ module _ (ring map : Content) (is : AreApart ring map) where
       )
 
   -- a bucket is taken out of the map, where the ring has nothing of it
-  pub take_from_map : (i : ℕ) (taken : List Entry) (later new : Content) → Takes i [] ring later → Takes i taken map new
+  pub take_from_map : (i : ℕ) (taken : List Entry) (later new : BucketsContent) → Takes i [] ring later → Takes i taken map new
       → AreApart later new × Takes i taken (both ring map) (both later new)
   take_from_map i taken later new emptied took =
       let alone : All (IsAlone map.delta map.entries) later.entries =
@@ -142,9 +142,9 @@ module _ (ring map : Content) (is : AreApart ring map) where
   not_below n i j es le = All-weaker (NotBelow n j) (NotBelow n i) (λ e low. omega arith) es
 
   -- the lower of the two lowest buckets is the lowest
-  pub lowest_of_both : (a b i : ℕ) (all : Content) → both ring map ≡ all → IsLowest ring a → IsLowest map b → i ≡ min a b → IsLowest all i
+  pub lowest_of_both : (a b i : ℕ) (all : BucketsContent) → both ring map ≡ all → IsLowest ring a → IsLowest map b → i ≡ min a b → IsLowest all i
   lowest_of_both a b i all view low_a low_b least =
-      subst (λ (s : Content). IsLowest s i) view (dite (dec_le a b)
+      subst (λ (s : BucketsContent). IsLowest s i) view (dite (dec_le a b)
       (λ le.
       let same : a ≡ i = omega arith in
       subst (IsLowest (both ring map)) same (lowest_in_ring a low_a (not_below map.delta a b map.entries le low_b.none_lower)))

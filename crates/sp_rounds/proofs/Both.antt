@@ -7,12 +7,12 @@ use Rattle.sp_rounds.specs.Held.{Held}
 use Rattle.sp_rounds.specs.declared.workers.Done.{Done}
 use Rattle.sp_rounds.specs.declared.workers.RoundRefused.{RoundRefused}
 use Rattle.sp_rounds.specs.Later.{IsLater}
-use Rattle.sp_rounds.specs.Work.{Job, did, Answers, IsMerged, Joined, AreJoined, caller_of, claimer_of}
+use Rattle.sp_rounds.specs.Work.{TaskOffers, did, Answers, IsMerged, Joined, AreJoined, caller_of, claimer_of}
 use Rattle.sp_rounds.proofs.Words.{at_most_itself}
 use Rattle.sp_rounds.proofs.CallsInRow.{later_along, later_joined}
 use Rattle.sp_rounds.proofs.WorkerSteps.{goes_joined}
 
-module _ (law : ℕ → Word → Type 0) (jobs : List Job) (number : ℕ) where
+module _ (law : ℕ → Word → Type 0) (jobs : List TaskOffers) (number : ℕ) where
   -- whatever a group answers, its caller has gone on from the one that it was given
   pub answer_later : (caller : Knowledge) (claimer : Held) (count : ℕ) (r : Result Done RoundRefused) → Answers law jobs number caller claimer count r → IsLater law caller (caller_of r)
   answer_later caller claimer count (Ok d) h = h.0.made.later

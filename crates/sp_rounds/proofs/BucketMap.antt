@@ -13,7 +13,7 @@ use Rattle.std.proofs.lemmas.Map.Lookups.{exact_unsigned}
 use Rattle.std.proofs.lemmas.List.Elements.{All-nil, All-cons, All-push, All-append, All-weaker, All-head, All-tail}
 use Rattle.std.proofs.lemmas.List.Sorted.{IsPermutation-refl}
 use Rattle.sp_bins.specs.declared.entry.Entry.{Entry}
-use Rattle.sp_rounds.specs.Content.{bucket_of, Content, Puts, Takes, IsLowest}
+use Rattle.sp_rounds.specs.Content.{bucket_of, BucketsContent, Puts, Takes, IsLowest}
 use Rattle.sp_rounds.specs.Filed.{all_entries, IsBucket, IsFiled}
 use Rattle.sp_rounds.proofs.Shuffles.{one_more, one_more_behind, to_front}
 use Rattle.sp_rounds.proofs.EntryPlaces.{Any-before, Any-behind, Any-first}
@@ -158,7 +158,7 @@ module _ (k : ℕ) where
       by false g later = to_front e.1.items (filed es) v.items (filed (remove_entry test es)) (later g)
 
 -- what contracts see of a map
-abbrev pub content_of : ℕ → Files → Content
+abbrev pub content_of : ℕ → Files → BucketsContent
 content_of delta es = record { delta = delta; ring = None; entries = filed es }
 
 module _ (k delta : ℕ) (es fs : Files) (f : IsFiled delta es) where

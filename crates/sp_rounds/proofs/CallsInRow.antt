@@ -12,10 +12,10 @@ use Rattle.sp_offer.specs.Order.{IsNoMore}
 use Rattle.sp_offer.specs.Histories.{event}
 use Rattle.sp_offer.specs.Story.{Story, Knowledge, Calls, Knows, Follows, known_table, own_calls}
 use Rattle.sp_bins.specs.declared.entry.Entry.{Entry}
-use Rattle.sp_rounds.specs.Offers.{Asked}
+use Rattle.sp_rounds.specs.Offers.{AskedOffer}
 use Rattle.sp_rounds.specs.Calls.{question_of, entries, entry_of_call, IsNearer, AllKnown}
 use Rattle.sp_rounds.specs.Later.{IsLater, HasLegalHistory}
-use Rattle.sp_rounds.specs.Work.{Made, MadeOffers}
+use Rattle.sp_rounds.specs.Work.{MadeCalls, MadeOffers}
 use Rattle.sp_rounds.proofs.Words.{at_most_itself, at_most_along, lesser_at_most, no_farther, shorter_below}
 
 pub map-append : {A B : Type 0} (f : A → B) (xs ys : List A) → map f (xs ++ ys) ≡ map f xs ++ map f ys
@@ -97,7 +97,7 @@ module _ (law : ℕ → Word → Type 0) where
   }
 
   -- calls, and further calls
-  pub made_more : (xs ys : List Event) (a b c : Knowledge) (f g h : List Entry) → Made law xs a b f g → Made law ys b c g h → Made law (xs ++ ys) a c f h
+  pub made_more : (xs ys : List Event) (a b c : Knowledge) (f g h : List Entry) → MadeCalls law xs a b f g → MadeCalls law ys b c g h → MadeCalls law (xs ++ ys) a c f h
   made_more xs ys a b c f g h p q = record {
     later = later_along a b c p.later q.later;
     mine = q.mine ∙ (ap (λ l. l ++ ys) p.mine ∙ append_assoc (own_calls a.story) xs ys);
@@ -106,7 +106,7 @@ module _ (law : ℕ → Word → Type 0) where
     knows = AllKnown-append c.story xs ys (AllKnown-lower b.story c.story xs q.later.falls p.knows) q.knows;
   }
 
-  pub made_none : (a : Knowledge) (f : List Entry) → Made law [] a a f f
+  pub made_none : (a : Knowledge) (f : List Entry) → MadeCalls law [] a a f f
   made_none a f = record {
     later = later_itself a;
     mine = sym (append-nil (own_calls a.story));
@@ -115,7 +115,7 @@ module _ (law : ℕ → Word → Type 0) where
     knows = tt;
   }
 
-  pub offers_more : (xs ys : List Asked) (a b c : Knowledge) (f g h : List Entry) → MadeOffers law xs a b f g → MadeOffers law ys b c g h → MadeOffers law (xs ++ ys) a c f h
+  pub offers_more : (xs ys : List AskedOffer) (a b c : Knowledge) (f g h : List Entry) → MadeOffers law xs a b f g → MadeOffers law ys b c g h → MadeOffers law (xs ++ ys) a c f h
   offers_more xs ys a b c f g h p q = (
     p.0 ++ q.0,
     map-append question_of p.0 q.0 ∙ (ap (λ l. l ++ map question_of q.0) p.1 ∙ ap (λ l. xs ++ l) q.1),

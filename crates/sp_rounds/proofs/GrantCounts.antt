@@ -6,7 +6,7 @@ use mathlib.Core.Logic.{dite}
 use native.Mathlib.Decide.{ℕ_discrete}
 use lib.ListN.{get_elem?}
 use Rattle.sp_rounds.specs.declared.grants.Grant.{Grant}
-use Rattle.sp_rounds.specs.declared.grants.View.{View}
+use Rattle.sp_rounds.specs.declared.grants.GrantView.{GrantView}
 use Rattle.sp_rounds.specs.Grants.{times, times_in_all}
 
 module _ (slot round : ℕ) where
@@ -14,20 +14,20 @@ module _ (slot round : ℕ) where
   times-append [] ys = omega arith
   times-append (x ∷ xs) ys = omega (arith, times-append xs ys)
 
-  pub all-append : (vs : List View) (w : View) → times_in_all slot round (vs ++ w ∷ []) ≡ times_in_all slot round vs + times slot round w.grants
+  pub all-append : (vs : List GrantView) (w : GrantView) → times_in_all slot round (vs ++ w ∷ []) ≡ times_in_all slot round vs + times slot round w.grants
   all-append [] w = omega arith
   all-append (v ∷ vs) w = omega (arith, all-append vs w)
 
   -- the count after a change of one view
-  pub all-set : (vs : List View) (id : ℕ) (v w : View) → get_elem? vs id ≡ some v
+  pub all-set : (vs : List GrantView) (id : ℕ) (v w : GrantView) → get_elem? vs id ≡ some v
       → times_in_all slot round (set vs id w) + times slot round v.grants ≡ times_in_all slot round vs + times slot round w.grants
   all-set [] id v w e = absurd (some-ne-none v (sym e))
-  all-set (x ∷ xs) zero v w e = let same = ap (λ (y : View). times slot round y.grants) (some-injective x v e) in omega arith
+  all-set (x ∷ xs) zero v w e = let same = ap (λ (y : GrantView). times slot round y.grants) (some-injective x v e) in omega arith
   all-set (x ∷ xs) (suc id) v w e = omega (arith, all-set xs id v w e)
 
-  pub one_of-all : (vs : List View) (id : ℕ) (v : View) → get_elem? vs id ≡ some v → times slot round v.grants ≤ times_in_all slot round vs
+  pub one_of-all : (vs : List GrantView) (id : ℕ) (v : GrantView) → get_elem? vs id ≡ some v → times slot round v.grants ≤ times_in_all slot round vs
   one_of-all [] id v e = absurd (some-ne-none v (sym e))
-  one_of-all (x ∷ xs) zero v e = let same = ap (λ (y : View). times slot round y.grants) (some-injective x v e) in omega arith
+  one_of-all (x ∷ xs) zero v e = let same = ap (λ (y : GrantView). times slot round y.grants) (some-injective x v e) in omega arith
   one_of-all (x ∷ xs) (suc id) v e = omega (arith, one_of-all xs id v e)
 
   -- how often the slot and the round are those of one grant

@@ -17,9 +17,9 @@ use Rattle.sp_rounds.specs.Held.{Held}
 use Rattle.sp_rounds.specs.declared.grants.Grant.{Grant}
 use Rattle.sp_rounds.specs.Grants.{times, EachOnce}
 use Rattle.sp_rounds.specs.declared.task.Task.{Task}
-use Rattle.sp_rounds.specs.Offers.{Asked, arcs_of, offer_along, offers_along, offers_of, AreSameOffers}
+use Rattle.sp_rounds.specs.Offers.{AskedOffer, arcs_of, offer_along, offers_along, offers_of, AreSameOffers}
 use Rattle.sp_rounds.specs.Calls.{question_of, IsNearer, AllKnown}
-use Rattle.sp_rounds.specs.Work.{Job, job_of, jobs_of, offers_at, slot_at, grant_at, calls_weight, Did, at_start, Made, MadeOffers, Goes, AllBelow}
+use Rattle.sp_rounds.specs.Work.{TaskOffers, job_of, jobs_of, offers_at, slot_at, grant_at, calls_weight, Did, at_start, MadeCalls, MadeOffers, Goes, AllBelow}
 use Rattle.sp_rounds.specs.Left.{tally, upto, unmarked_value, IsMarked, RanLeft, IsTaskDone, RoundDone}
 use Rattle.sp_rounds.proofs.Words.{not_above, at_most, within_pair}
 use Rattle.sp_rounds.specs.Later.{IsLater}
@@ -27,7 +27,7 @@ use Rattle.sp_rounds.proofs.CallsInRow.{made_more, made_none, nearer_along, late
 use Rattle.sp_rounds.proofs.WorkerSteps.{calls_weight-append, length-map}
 use Rattle.sp_rounds.proofs.Sums.{sum-tally, in_or_left, all_left, weight-upto, sum_by-map, sum_by-flat_map}
 
-module _ (law : ℕ → Word → Type 0) (jobs : List Job) (marks : List Bool) where
+module _ (law : ℕ → Word → Type 0) (jobs : List TaskOffers) (marks : List Bool) where
   pub left_none : (a : Knowledge) (f : List Entry) → RanLeft law jobs marks 0 a a f f
   left_none a f = ([], made_none law a f, λ h. refl)
 
@@ -57,7 +57,7 @@ module _ (law : ℕ → Word → Type 0) (jobs : List Job) (marks : List Bool) w
   )
 
 -- a number stands among the receipts no more often than its grant among theirs
-tally-times : (jobs : List Job) (number k : ℕ) (rs : List ℕ) → tally k rs ≤ times (slot_at jobs k) number (map (grant_at jobs number) rs)
+tally-times : (jobs : List TaskOffers) (number k : ℕ) (rs : List ℕ) → tally k rs ≤ times (slot_at jobs k) number (map (grant_at jobs number) rs)
 tally-times jobs number k [] = omega arith
 tally-times jobs number k (r ∷ rs) =
     let more = tally-times jobs number k rs in
@@ -66,7 +66,7 @@ tally-times jobs number k (r ∷ rs) =
     (λ ne. rw (ne_eqb r k ne) (omega arith))
 
 -- each grant is given once, so no number stands twice among the receipts
-pub once : (law : ℕ → Word → Type 0) (jobs : List Job) (number : ℕ) (a b : Did) (rs : List ℕ) (grants : List Grant) → rs ≡ b.receipts → Goes law jobs number a b → a.receipts ≡ [] → grants ≡ b.claimer.grants → EachOnce grants
+pub once : (law : ℕ → Word → Type 0) (jobs : List TaskOffers) (number : ℕ) (a b : Did) (rs : List ℕ) (grants : List Grant) → rs ≡ b.receipts → Goes law jobs number a b → a.receipts ≡ [] → grants ≡ b.claimer.grants → EachOnce grants
     → (k : ℕ) → tally k rs ≤ 1
 once law jobs number a b rs grants is p none same each k =
     let e = ap (tally k) (is ∙ (p.receipts ∙ ap (λ l. l ++ p.more) none)) in
@@ -77,7 +77,7 @@ once law jobs number a b rs grants is p none same each k =
     omega arith
 
 -- the receipts are numbers of jobs
-pub below : (law : ℕ → Word → Type 0) (jobs : List Job) (number n : ℕ) (a b : Did) (rs : List ℕ) → length jobs ≡ n → rs ≡ b.receipts → a.receipts ≡ [] → Goes law jobs number a b → AllBelow n rs
+pub below : (law : ℕ → Word → Type 0) (jobs : List TaskOffers) (number n : ℕ) (a b : Did) (rs : List ℕ) → length jobs ≡ n → rs ≡ b.receipts → a.receipts ≡ [] → Goes law jobs number a b → AllBelow n rs
 below law jobs number n a b rs len same none p =
     subst (λ m. AllBelow m rs) len (subst (AllBelow (length jobs)) (sym (same ∙ (p.receipts ∙ ap (λ l. l ++ p.more) none))) p.inside)
 
@@ -87,7 +87,7 @@ below law jobs number n a b rs len same none p =
 abbrev one_if : Bool → ℕ
 one_if b = if b then 1 else 0
 
-abbrev above : Story → Asked → ℕ
+abbrev above : Story → AskedOffer → ℕ
 above s o = one_if (is_below o.word (known_table s o.vertex))
 
 none_above : (s : Story) (calls : List Event) → AllKnown s calls → calls_weight (above s) calls ≡ 0
@@ -138,13 +138,13 @@ tasks_known after max rows tasks e k t low =
 -- ## Rounds
 
 module _ (law : ℕ → Word → Type 0) (max : ℕ) (rows : Split) (tasks : List Task) where
-  all_weight : (w : Asked → ℕ) → upto (λ k. sum_by w (offers_at (jobs_of max rows tasks) k)) (length tasks) ≡ sum_by w (flat_map (offers_of max rows) tasks)
+  all_weight : (w : AskedOffer → ℕ) → upto (λ k. sum_by w (offers_at (jobs_of max rows tasks) k)) (length tasks) ≡ sum_by w (flat_map (offers_of max rows) tasks)
   all_weight w =
       ap (upto (λ k. sum_by w (offers_at (jobs_of max rows tasks) k))) (sym (length-map (job_of max rows) tasks))
       ∙ (weight-upto w (jobs_of max rows tasks)
-      ∙ (sum_by-map (λ (j : Job). sum_by w j.offers) (job_of max rows) tasks ∙ sym (sum_by-flat_map w (offers_of max rows) tasks)))
+      ∙ (sum_by-map (λ (j : TaskOffers). sum_by w j.offers) (job_of max rows) tasks ∙ sym (sum_by-flat_map w (offers_of max rows) tasks)))
 
-  done_by : (calls : List Event) (c d : Knowledge) (f : List Entry) → Made law calls c d [] f → AreSameOffers (map question_of calls) (flat_map (offers_of max rows) tasks) → RoundDone law max rows tasks c d f
+  done_by : (calls : List Event) (c d : Knowledge) (f : List Entry) → MadeCalls law calls c d [] f → AreSameOffers (map question_of calls) (flat_map (offers_of max rows) tasks) → RoundDone law max rows tasks c d f
   done_by calls c d f made each = record {
     later = made.later;
     calls = calls;

@@ -6,7 +6,7 @@ use Rattle.std.proofs.lemmas.List.Elements.{All-nil, All-cons, All-push, All-wea
 use Rattle.std.proofs.lemmas.List.Sorted.{All-permutation}
 use Rattle.sp_bins.specs.declared.entry.Entry.{Entry}
 use Rattle.sp_rounds.specs.declared.ring.TheConstants.{LONGEST_RING}
-use Rattle.sp_rounds.specs.Content.{bucket_of, no_entries, Content, Puts, Takes, IsLowest}
+use Rattle.sp_rounds.specs.Content.{bucket_of, no_entries, BucketsContent, Puts, Takes, IsLowest}
 use Rattle.sp_rounds.specs.Filed.{all_entries}
 use Rattle.sp_rounds.specs.Window.{Window, Stand, IsRing, IsWithin, window_of, content_of}
 use Rattle.sp_rounds.proofs.EntryPlaces.{Any-head, Any-before, Any-behind, All-before, All-behind}
@@ -27,7 +27,7 @@ module _ (delta first head : ℕ) (ss : Slots) (r : IsRing delta first head ss) 
   abbrev Within : ℕ → Entry → Type 0
   Within len x = (first ≤ bucket_of delta x) × (bucket_of delta x < first + len)
 
-  abbrev content : Slots → Content
+  abbrev content : Slots → BucketsContent
   content xs = content_of (window_of delta first xs)
 
   -- a slot is written

@@ -6,15 +6,15 @@ use mathlib.Core.Logic.{dite}
 use native.Mathlib.Decide.{dec_le, ℕ_discrete}
 use lib.ListN.{get_elem?}
 use Rattle.atomic_table.specs.Table.{State, step, keeps, Allows, Splits, Joins}
-use Rattle.sp_rounds.specs.declared.grants.View.{View}
+use Rattle.sp_rounds.specs.declared.grants.GrantView.{GrantView}
 use Rattle.sp_rounds.specs.Grants.{grant, nothing, both, times_in_all, Kept, Claimed, Checked}
 use Rattle.sp_rounds.proofs.GrantCounts.{times-append, all-append, all-set, one_of-all, hits, hit_or_miss, hits_itself, other_slot, grows, stays}
 
 -- one more grant, of a round that is above the word
-pub kept_grant : (n : ℕ) (words : List ℕ) (views : List View) (id slot round : ℕ) (v : View) → slot < n → slice_index words slot < round → get_elem? views id ≡ some v
+pub kept_grant : (n : ℕ) (words : List ℕ) (views : List GrantView) (id slot round : ℕ) (v : GrantView) → slot < n → slice_index words slot < round → get_elem? views id ≡ some v
     → Kept n words views → Kept n (set words slot (max (slice_index words slot) round)) (set views id record { grants = grant slot round ∷ v.grants })
 kept_grant n words views id slot round v inside above at kept =
-    let w : View = record { grants = grant slot round ∷ v.grants } in
+    let w : GrantView = record { grants = grant slot round ∷ v.grants } in
     let m : ℕ = max (slice_index words slot) round in
     let is_round : m ≡ round = omega arith in
     let here : slice_index (set words slot m) slot ≡ m = get_or-set_same words slot m 0 (omega arith) in (
@@ -53,7 +53,7 @@ kept_grant n words views id slot round v inside above at kept =
     )
 
 -- a step that leaves all words and all grants as they were
-pub kept_refusal : (n : ℕ) (words : List ℕ) (views : List View) (id slot m : ℕ) (v : View) → m ≡ slice_index words slot → get_elem? views id ≡ some v
+pub kept_refusal : (n : ℕ) (words : List ℕ) (views : List GrantView) (id slot m : ℕ) (v : GrantView) → m ≡ slice_index words slot → get_elem? views id ≡ some v
     → Kept n words views → Kept n (set words slot m) (set views id v)
 kept_refusal n words views id slot m v same_word at kept = (
   length-set {A = ℕ} words slot m ∙ kept.0,
@@ -70,8 +70,8 @@ kept_refusal n words views id slot m v same_word at kept = (
       ap (λ (r : ℕ). times_in_all s r (set views id v)) word ∙ one),
 )
 
-pub claims : (n slots id slot round : ℕ) (v : View) (carried : List (ℕ × Unit)) → slot < n
-    → Allows (λ (s : State Unit View). Kept n s.words s.views) slots id (v, carried) slot (λ found. max found round) (Claimed (step slots slot round 0 none) (v, carried))
+pub claims : (n slots id slot round : ℕ) (v : GrantView) (carried : List (ℕ × Unit)) → slot < n
+    → Allows (λ (s : State Unit GrantView). Kept n s.words s.views) slots id (v, carried) slot (λ found. max found round) (Claimed (step slots slot round 0 none) (v, carried))
 claims n slots id slot round v carried inside s kept homes at fits =
     dite (dec_le round (slice_index s.words slot))
     (λ below. (
@@ -92,8 +92,8 @@ claims n slots id slot round v carried inside s kept homes at fits =
       (refl, (λ _. (refl, omega arith)), (λ h. absurd (omega arith))),
     ))
 
-pub checks : (n slots id : ℕ) (v : View) (carried : List (ℕ × Unit))
-    → Allows (λ (s : State Unit View). Kept n s.words s.views) slots id (v, carried) 0 (λ found. found) (Checked (step slots 0 0 0 none) (v, carried))
+pub checks : (n slots id : ℕ) (v : GrantView) (carried : List (ℕ × Unit))
+    → Allows (λ (s : State Unit GrantView). Kept n s.words s.views) slots id (v, carried) 0 (λ found. found) (Checked (step slots 0 0 0 none) (v, carried))
 checks n slots id v carried s kept homes at fits = (
   v,
   keeps,
@@ -102,7 +102,7 @@ checks n slots id v carried s kept homes at fits = (
   (refl, (λ slot round. let k = kept.1 slot round in let part = one_of-all slot round s.views id v at in omega arith)),
 )
 
-pub splits : (n id : ℕ) (v : View) → Splits (λ (s : State Unit View). Kept n s.words s.views) id v v nothing
+pub splits : (n id : ℕ) (v : GrantView) → Splits (λ (s : State Unit GrantView). Kept n s.words s.views) id v v nothing
 splits n id v s kept at = (
   kept.0,
   (λ slot round.
@@ -118,7 +118,7 @@ splits n id v s kept at = (
       omega arith),
 )
 
-pub joins : (n id other : ℕ) (v w : View) → Joins (λ (s : State Unit View). Kept n s.words s.views) id v other w (both v w) nothing
+pub joins : (n id other : ℕ) (v w : GrantView) → Joins (λ (s : State Unit GrantView). Kept n s.words s.views) id v other w (both v w) nothing
 joins n id other v w s kept at apart there = (
   kept.0,
   (λ slot round.

@@ -4,8 +4,8 @@ use Rattle.std.proofs.lemmas.List.Sums.{sum_by-cons, sum_by-append}
 use Rattle.std.specs.Prelude.{sum_by, flat_map, ◌==◌, if◌then◌else◌, slice_index_or}
 use mathlib.Core.Logic.{dite}
 use native.Mathlib.Decide.{ℕ_discrete}
-use Rattle.sp_rounds.specs.Offers.{Asked}
-use Rattle.sp_rounds.specs.Work.{Job, offers_at, AllBelow}
+use Rattle.sp_rounds.specs.Offers.{AskedOffer}
+use Rattle.sp_rounds.specs.Work.{TaskOffers, offers_at, AllBelow}
 use Rattle.sp_rounds.specs.Left.{tally, upto, unmarked_value, IsMarked}
 
 pub upto-same : (g h : ℕ → ℕ) (n : ℕ) → ((k : ℕ) → k < n → g k ≡ h k) → upto g n ≡ upto h n
@@ -76,12 +76,12 @@ pub all_left : (f : ℕ → ℕ) (n : ℕ) → upto (unmarked_value [] f) n ≡ 
 all_left f n = upto-same (unmarked_value [] f) f n (λ k low. refl)
 
 -- what all jobs weigh
-pub weight-upto : (h : Asked → ℕ) (jobs : List Job) → upto (λ k. sum_by h (offers_at jobs k)) (length jobs) ≡ sum_by (λ (j : Job). sum_by h j.offers) jobs
+pub weight-upto : (h : AskedOffer → ℕ) (jobs : List TaskOffers) → upto (λ k. sum_by h (offers_at jobs k)) (length jobs) ≡ sum_by (λ (j : TaskOffers). sum_by h j.offers) jobs
 weight-upto h [] = refl
 weight-upto h (j ∷ js) =
     let a = upto-front (λ k. sum_by h (offers_at (j ∷ js) k)) (length js) in
     let b = weight-upto h js in
-    let c = sum_by-cons (λ (x : Job). sum_by h x.offers) j js in
+    let c = sum_by-cons (λ (x : TaskOffers). sum_by h x.offers) j js in
     omega arith
 
 -- what the parts of a list weigh, they weigh together

@@ -13,9 +13,9 @@ use Rattle.sp_rounds.proofs.GrantCounts.{times-append}
 use Rattle.sp_bins.specs.declared.entry.Entry.{Entry}
 use Rattle.sp_graph.specs.RowsValue.{Split}
 use Rattle.sp_rounds.specs.declared.task.Task.{Task}
-use Rattle.sp_rounds.specs.Offers.{Asked, offers_of}
+use Rattle.sp_rounds.specs.Offers.{AskedOffer, offers_of}
 use Rattle.sp_rounds.specs.Calls.{question_of}
-use Rattle.sp_rounds.specs.Work.{Job, jobs_of, offers_at, slot_at, grant_at, calls_weight, Did, Made, MadeOffers, AllBelow, Goes, at_start, Joined}
+use Rattle.sp_rounds.specs.Work.{TaskOffers, jobs_of, offers_at, slot_at, grant_at, calls_weight, Did, MadeCalls, MadeOffers, AllBelow, Goes, at_start, Joined}
 use Rattle.sp_rounds.proofs.CallsInRow.{map-append, made_more, made_none, entries-append, nearer_append, AllKnown-lower, AllKnown-append, later_along, later_joined}
 
 pub offers_at-is : (max : ℕ) (rows : Split) (tasks : List Task) (k : ℕ) (d : Task) → k < length tasks → offers_at (jobs_of max rows tasks) k ≡ offers_of max rows (get_or tasks k d)
@@ -43,10 +43,10 @@ AllBelow-append n [] ys h k = k
 AllBelow-append n (x ∷ xs) ys h k = (h.0, AllBelow-append n xs ys h.1 k)
 
 -- the weight of calls, and of more calls
-pub calls_weight-append : (h : Asked → ℕ) (xs ys : List Event) → calls_weight h (xs ++ ys) ≡ calls_weight h xs + calls_weight h ys
+pub calls_weight-append : (h : AskedOffer → ℕ) (xs ys : List Event) → calls_weight h (xs ++ ys) ≡ calls_weight h xs + calls_weight h ys
 calls_weight-append h xs ys = ap (sum_by h) (map-append question_of xs ys) ∙ sum_by-append h (map question_of xs) (map question_of ys)
 
-module _ (law : ℕ → Word → Type 0) (jobs : List Job) (number : ℕ) where
+module _ (law : ℕ → Word → Type 0) (jobs : List TaskOffers) (number : ℕ) where
   pub goes_none : (a : Did) → Goes law jobs number a a
   goes_none a = record {
     calls = [];
@@ -106,7 +106,7 @@ module _ (law : ℕ → Word → Type 0) (jobs : List Job) (number : ℕ) where
   goes_refused a b caller found receipts table grants = record {
     calls = [];
     more = [];
-    made = subst (λ (x : Knowledge × List Entry). Made law [] a.caller x.0 a.found x.1) (λ i. (sym caller i, sym found i)) (made_none law a.caller a.found);
+    made = subst (λ (x : Knowledge × List Entry). MadeCalls law [] a.caller x.0 a.found x.1) (λ i. (sym caller i, sym found i)) (made_none law a.caller a.found);
     receipts = receipts ∙ sym (append-nil a.receipts);
     inside = tt;
     each = λ h. refl;

@@ -7,7 +7,7 @@ use Rattle.sp_word.specs.declared.reply.Reply.TheVariants.{Shorter, SmallerPred,
 use Rattle.sp_offer.specs.Order.{IsNoMore}
 use Rattle.sp_offer.specs.Story.{Story, known_table}
 use Rattle.sp_bins.specs.declared.entry.Entry.{Entry}
-use Rattle.sp_rounds.specs.Offers.{Asked}
+use Rattle.sp_rounds.specs.Offers.{AskedOffer}
 
 -- This is the word that a call offers; a read offers none.
 abbrev pub word_offered : Call → Word
@@ -15,7 +15,7 @@ word_offered (Offer word found reply) = word
 word_offered (Read found) = Unreached
 
 -- This is the offer that a call makes, as a vertex and a word; a read offers unreached.
-abbrev pub question_of : Event → Asked
+abbrev pub question_of : Event → AskedOffer
 question_of e = record { vertex = e.vertex; word = word_offered e.call }
 
 -- This is the entry of an offer that made the distance of its vertex smaller.

@@ -17,13 +17,13 @@ abbrev pub HasNoEntryIn : (delta : ℕ) → List Entry → (i : ℕ) → Type 0
 HasNoEntryIn delta entries i = All (λ entry. bucket_of delta entry ≢ i) entries
 
 -- This is the width of a bucket, the length of the ring, if there is one, and the entries in some order.
-pub record Content : Type 0 where
+pub record BucketsContent : Type 0 where
   pub delta : ℕ
   pub ring : Option ℕ
   pub entries : List Entry
 
 -- The buckets are empty.
-abbrev pub no_entries : ℕ → Option ℕ → Content
+abbrev pub no_entries : ℕ → Option ℕ → BucketsContent
 no_entries delta ring = record { delta = delta; ring = ring; entries = [] }
 
 -- While bucket i is the lowest, an entry that is queued from it lies at most ceil(longest / delta) buckets higher, so a
@@ -32,13 +32,13 @@ abbrev pub ring_for : ℕ → ℕ → Option ℕ
 ring_for delta longest = let len : ℕ = div_ceil longest delta + 1 in if nat_le len LONGEST_RING then Some len else None
 
 -- One entry is added, and nothing else changes.
-pub record Puts (entry : Entry) (old new : Content) : Type 0 where
+pub record Puts (entry : Entry) (old new : BucketsContent) : Type 0 where
   pub delta : new.delta ≡ old.delta
   pub ring : new.ring ≡ old.ring
   pub entries : IsPermutation (entry ∷ old.entries) new.entries
 
 -- Exactly the entries of bucket i are removed.
-pub record Takes (i : ℕ) (taken : List Entry) (old new : Content) : Type 0 where
+pub record Takes (i : ℕ) (taken : List Entry) (old new : BucketsContent) : Type 0 where
   pub delta : new.delta ≡ old.delta
   pub ring : new.ring ≡ old.ring
   pub entries : IsPermutation old.entries (taken ++ new.entries)
@@ -46,6 +46,6 @@ pub record Takes (i : ℕ) (taken : List Entry) (old new : Content) : Type 0 whe
   pub left_of_others : All (λ entry. bucket_of old.delta entry ≢ i) new.entries
 
 -- Bucket i has an entry, and no lower bucket has one.
-pub record IsLowest (content : Content) (i : ℕ) : Type 0 where
+pub record IsLowest (content : BucketsContent) (i : ℕ) : Type 0 where
   pub here : Any (λ entry. bucket_of content.delta entry ≡ i) content.entries
   pub none_lower : All (λ entry. i ≤ bucket_of content.delta entry) content.entries

@@ -7,10 +7,10 @@ use Rattle.sp_graph.specs.RowsValue.{Split}
 use Rattle.sp_offer.specs.Story.{Knowledge, known_table, own_calls}
 use Rattle.sp_bins.specs.declared.entry.Entry.{Entry}
 use Rattle.sp_rounds.specs.declared.task.Task.{Task}
-use Rattle.sp_rounds.specs.Offers.{Asked, arcs_of, offers_of, AreSameOffers}
+use Rattle.sp_rounds.specs.Offers.{AskedOffer, arcs_of, offers_of, AreSameOffers}
 use Rattle.sp_rounds.specs.Calls.{question_of, entries, IsNearer}
 use Rattle.sp_rounds.specs.Later.{IsLater}
-use Rattle.sp_rounds.specs.Work.{Job, Made, offers_at, calls_weight}
+use Rattle.sp_rounds.specs.Work.{TaskOffers, MadeCalls, offers_at, calls_weight}
 
 -- This counts how often the number k occurs among the receipts.
 abbrev pub tally : ℕ → List ℕ → ℕ
@@ -32,10 +32,10 @@ abbrev pub unmarked_value : List Bool → (ℕ → ℕ) → ℕ → ℕ
 unmarked_value marks g k = if slice_index_or marks k false then 0 else g k
 
 -- The jobs below n without a mark were run.
-abbrev pub RanLeft : (ℕ → Word → Type 0) → List Job → List Bool → ℕ → Knowledge → Knowledge → List Entry → List Entry → Type 0
+abbrev pub RanLeft : (ℕ → Word → Type 0) → List TaskOffers → List Bool → ℕ → Knowledge → Knowledge → List Entry → List Entry → Type 0
 RanLeft law jobs marks n before after bag bag' =
-    (calls : List Event) × Made law calls before after bag bag'
-    × ((h : Asked → ℕ) → calls_weight h calls ≡ upto (unmarked_value marks (λ k. sum_by h (offers_at jobs k))) n)
+    (calls : List Event) × MadeCalls law calls before after bag bag'
+    × ((h : AskedOffer → ℕ) → calls_weight h calls ≡ upto (unmarked_value marks (λ k. sum_by h (offers_at jobs k))) n)
 
 -- ## Rounds
 

@@ -10,7 +10,7 @@ use Rattle.sp_rounds.specs.declared.task.TaskKind.TheVariants.{Light, Heavy}
 use Rattle.sp_rounds.specs.declared.task.Task.{Task}
 
 -- This is a word that is offered to a vertex.
-pub record Asked : Type 0 where
+pub record AskedOffer : Type 0 where
   pub vertex : ℕ
   pub word : Word
 
@@ -24,15 +24,15 @@ abbrev pub arcs_of : Split → Task → List Arc
 arcs_of rows t = arcs_of_kind rows t.kind t.vertex
 
 -- This is what an arc offers its head at the distance d of its tail.
-abbrev pub offer_along : (d : ℕ) → Arc → Asked
+abbrev pub offer_along : (d : ℕ) → Arc → AskedOffer
 offer_along d a = record { vertex = a.head; word = Pair (d + a.len) a.tail }
 
 -- These are the offers along arcs whose sums are at most max.
-abbrev pub offers_along : (max d : ℕ) → List Arc → List Asked
+abbrev pub offers_along : (max d : ℕ) → List Arc → List AskedOffer
 offers_along max d arcs = map (offer_along d) (filter (λ a. nat_le (d + a.len) max) arcs)
 
 -- These are the offers of a task: those along its arcs whose sums are at most max.
-abbrev pub offers_of : (max : ℕ) → Split → Task → List Asked
+abbrev pub offers_of : (max : ℕ) → Split → Task → List AskedOffer
 offers_of max rows t = offers_along max t.dist (arcs_of rows t)
 
 -- ## What a round asks of its tasks
@@ -53,5 +53,5 @@ IsTask law max rows t = IsVertex rows.graph.n t.vertex × (t.dist ≤ max) × Is
 
 -- The lists have the same offers, each equally often, in any order: however offers are weighted, both lists have the
 -- same weight.
-abbrev pub AreSameOffers : List Asked → List Asked → Type 0
-AreSameOffers xs ys = (weight : Asked → ℕ) → sum_by weight xs ≡ sum_by weight ys
+abbrev pub AreSameOffers : List AskedOffer → List AskedOffer → Type 0
+AreSameOffers xs ys = (weight : AskedOffer → ℕ) → sum_by weight xs ≡ sum_by weight ys

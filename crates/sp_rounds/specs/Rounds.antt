@@ -13,21 +13,21 @@ use Rattle.sp_offer.specs.Rule.{TableView}
 use Rattle.sp_bins.specs.declared.entry.Entry.{Entry}
 use Rattle.sp_rounds.specs.declared.task.Task.{Task}
 use Rattle.sp_rounds.specs.declared.task.Round.{Round}
-use Rattle.sp_rounds.specs.declared.round.Prepared.{Prepared}
+use Rattle.sp_rounds.specs.declared.round.RoundMemory.{RoundMemory}
 use Rattle.sp_rounds.specs.declared.workers.Done.{Done}
 use Rattle.sp_rounds.specs.declared.workers.RoundOut.{RoundOut}
 use Rattle.sp_rounds.specs.declared.workers.RoundRefused.{RoundRefused}
-use Rattle.sp_rounds.specs.declared.workers.stealing.Start.{Start}
+use Rattle.sp_rounds.specs.declared.workers.stealing.WorkerStart.{WorkerStart}
 use Rattle.sp_rounds.specs.Offers.{IsTask, arcs_of, offer_along, offers_along}
 use Rattle.sp_rounds.specs.Later.{IsLater, HasLegalHistory}
-use Rattle.sp_rounds.specs.Work.{Job, jobs_of, offers_at, IsReady, AreOf, AreJoined, Joined, MadeOffers, Did, did, Goes, Answers}
+use Rattle.sp_rounds.specs.Work.{TaskOffers, jobs_of, offers_at, IsReady, AreOf, AreJoined, Joined, MadeOffers, Did, did, Goes, Answers}
 use Rattle.sp_rounds.specs.Left.{RanLeft, RoundDone}
 
 -- ## A round
 
 module _ {L : Type 0} {P : ℕ} where
   -- These are the jobs of the round's tasks.
-  abbrev pub jobs_in : Round L P → List Job
+  abbrev pub jobs_in : Round L P → List TaskOffers
   jobs_in round = jobs_of (max_dist P) round.rows.now round.tasks.now
 
   -- These are the arcs of the task with this number.
@@ -70,7 +70,7 @@ module _ {L : Type 0} {P : ℕ} where
         MadeOffers law_in (offers_at (jobs_in round) number) before.caller after.caller before.found.items after.found.items
 
     -- This is what a worker that starts with this, and the workers of the other deques, give back.
-    abbrev pub AllGiveIn : {A : Type 0} → Vec A Global → Start → Result Done RoundRefused → Type 0
+    abbrev pub AllGiveIn : {A : Type 0} → Vec A Global → WorkerStart → Result Done RoundRefused → Type 0
     AllGiveIn others start result =
         Answers law_in (jobs_in round) round.number start.caller start.claimer (vec_len others + 1) result
 
@@ -80,7 +80,7 @@ module _ {L : Type 0} {P : ℕ} where
         RanLeft law_in (jobs_in round) marks (length round.tasks.now) before after bag.items bag'.items
 
 -- There are at most as many workers as there are deques, plus the leader.
-abbrev pub most_workers : Prepared → ℕ
+abbrev pub most_workers : RoundMemory → ℕ
 most_workers prepared = max 1 (vec_len prepared.deques.owners)
 
 -- ## Room
@@ -92,7 +92,7 @@ HasRoom items more = vec_len items + more ≤ vec_capacity items
 -- ## What workers share
 
 -- These are the jobs of the tasks over these rows.
-abbrev pub jobs_at : (P : ℕ) → Split → List Task → List Job
+abbrev pub jobs_at : (P : ℕ) → Split → List Task → List TaskOffers
 jobs_at P rows tasks = jobs_of (max_dist P) rows tasks
 
 -- The lowering, the law, the gate and the runtime may be shared with other threads.
@@ -117,16 +117,16 @@ module _ {L : Type 0} (P : ℕ) (allows : L → ℕ → Word → Type 0) (table 
   IsReadyFor claims rows tasks = IsReady P (lawful P (allows table.law)) table.vertices claims.words rows tasks
 
   -- A worker's caller and claimer belong to these tables.
-  abbrev pub CanWork : TableId → Split → List Task → Start → Type 0
+  abbrev pub CanWork : TableId → Split → List Task → WorkerStart → Type 0
   CanWork claims rows tasks start = IsReadyFor claims rows tasks × AreOf table.id claims start.caller start.claimer
 
   -- This is what one worker gives back.
-  abbrev pub OneGives : List Job → (number : ℕ) → Start → Result Done RoundRefused → Type 0
+  abbrev pub OneGives : List TaskOffers → (number : ℕ) → WorkerStart → Result Done RoundRefused → Type 0
   OneGives jobs number start result =
       Answers (lawful P (allows table.law)) jobs number start.caller start.claimer 1 result
 
   -- This is what one worker and the workers of the other deques give back together.
-  abbrev pub AllGive : {A : Type 0} → List Job → (number : ℕ) → Vec A Global → Start → Result Done RoundRefused → Type 0
+  abbrev pub AllGive : {A : Type 0} → List TaskOffers → (number : ℕ) → Vec A Global → WorkerStart → Result Done RoundRefused → Type 0
   AllGive jobs number others start result =
       Answers (lawful P (allows table.law)) jobs number start.caller start.claimer (vec_len others + 1) result
 

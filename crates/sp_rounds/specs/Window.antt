@@ -3,7 +3,7 @@ use Rattle.std.specs.Prelude.{◌≡◌, ℕ, suc, ◌+◌, ◌%◌, ◌<◌, �
 use Rattle.std.specs.declared.alloc.Global.{Global}
 use Rattle.sp_bins.specs.declared.entry.Entry.{Entry}
 use Rattle.sp_rounds.specs.declared.ring.TheConstants.{LONGEST_RING}
-use Rattle.sp_rounds.specs.Content.{Content, bucket_of}
+use Rattle.sp_rounds.specs.Content.{BucketsContent, bucket_of}
 use Rattle.sp_rounds.specs.Filed.{all_entries}
 
 -- This is the width of a bucket, the first bucket of the window, the number of its buckets, and the entries in some
@@ -15,7 +15,7 @@ pub record Window : Type 0 where
   pub entries : List Entry
 
 -- This is what contracts see of the entries in a window.
-abbrev pub content_of : Window → Content
+abbrev pub content_of : Window → BucketsContent
 content_of w = record { delta = w.delta; ring = Some w.len; entries = w.entries }
 
 -- Bucket i is one of the len buckets from the first on.

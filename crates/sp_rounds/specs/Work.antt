@@ -13,49 +13,49 @@ use Rattle.sp_rounds.specs.declared.task.Task.{Task}
 use Rattle.sp_rounds.specs.declared.workers.Receipt.{Receipt}
 use Rattle.sp_rounds.specs.declared.workers.Done.{Done}
 use Rattle.sp_rounds.specs.declared.workers.RoundRefused.{RoundRefused}
-use Rattle.sp_rounds.specs.Offers.{Asked, offers_of, IsTask}
+use Rattle.sp_rounds.specs.Offers.{AskedOffer, offers_of, IsTask}
 use Rattle.sp_rounds.specs.Calls.{question_of, entries, IsNearer, AllKnown}
 use Rattle.sp_rounds.specs.Later.{IsLater}
 
 -- ## Jobs
 
 -- A job is a task as its workers see it: the slot by which it is claimed, and its offers.
-pub record Job : Type 0 where
+pub record TaskOffers : Type 0 where
   pub slot : ℕ
-  pub offers : List Asked
+  pub offers : List AskedOffer
 
 -- This is the job of a task, which is claimed by the slot of the task's vertex.
-abbrev pub job_of : (max : ℕ) → Split → Task → Job
+abbrev pub job_of : (max : ℕ) → Split → Task → TaskOffers
 job_of max rows t = record { slot = t.vertex - 1; offers = offers_of max rows t }
 
 -- These are the jobs of the tasks, in their order.
-abbrev pub jobs_of : (max : ℕ) → Split → List Task → List Job
+abbrev pub jobs_of : (max : ℕ) → Split → List Task → List TaskOffers
 jobs_of max rows tasks = map (job_of max rows) tasks
 
 -- These are the offers of job k.
-abbrev pub offers_at : List Job → ℕ → List Asked
+abbrev pub offers_at : List TaskOffers → ℕ → List AskedOffer
 offers_at [] k = []
 offers_at (j ∷ js) zero = j.offers
 offers_at (j ∷ js) (suc k) = offers_at js k
 
 -- This is the slot by which job k is claimed.
-abbrev pub slot_at : List Job → ℕ → ℕ
+abbrev pub slot_at : List TaskOffers → ℕ → ℕ
 slot_at [] k = 0
 slot_at (j ∷ js) zero = j.slot
 slot_at (j ∷ js) (suc k) = slot_at js k
 
 -- This is the grant by which job k may be run.
-abbrev pub grant_at : List Job → ℕ → ℕ → Grant
+abbrev pub grant_at : List TaskOffers → ℕ → ℕ → Grant
 grant_at jobs number k = grant (slot_at jobs k) number
 
 -- ## Weights
 
 -- This is the total weight of the offers of these jobs, which are given by their numbers.
-abbrev pub weight_at : (Asked → ℕ) → List Job → List ℕ → ℕ
+abbrev pub weight_at : (AskedOffer → ℕ) → List TaskOffers → List ℕ → ℕ
 weight_at h jobs ks = sum_by (λ k. sum_by h (offers_at jobs k)) ks
 
 -- This is the total weight of the offers that these calls made.
-abbrev pub calls_weight : (Asked → ℕ) → List Event → ℕ
+abbrev pub calls_weight : (AskedOffer → ℕ) → List Event → ℕ
 calls_weight h calls = sum_by h (map question_of calls)
 
 -- ## What a round requires
@@ -99,7 +99,7 @@ at_start caller claimer = record { caller = caller; claimer = claimer; receipts 
 
 -- The caller made exactly these calls, and knows each word that they offered. Each call that was answered Shorter put
 -- its entry into the bag, and that entry is nearer than what the caller knew before.
-pub record Made (law : ℕ → Word → Type 0) (calls : List Event) (before after : Knowledge) (bag bag' : List Entry) : Type 0 where
+pub record MadeCalls (law : ℕ → Word → Type 0) (calls : List Event) (before after : Knowledge) (bag bag' : List Entry) : Type 0 where
   pub later : IsLater law before after
   pub mine : own_calls after.story ≡ own_calls before.story ++ calls
   pub found : bag' ≡ bag ++ entries calls
@@ -107,9 +107,9 @@ pub record Made (law : ℕ → Word → Type 0) (calls : List Event) (before aft
   pub knows : AllKnown after.story calls
 
 -- The calls are these offers, in their order.
-abbrev pub MadeOffers : (ℕ → Word → Type 0) → List Asked → Knowledge → Knowledge → List Entry → List Entry → Type 0
+abbrev pub MadeOffers : (ℕ → Word → Type 0) → List AskedOffer → Knowledge → Knowledge → List Entry → List Entry → Type 0
 MadeOffers law offers before after bag bag' =
-    (calls : List Event) × (map question_of calls ≡ offers) × Made law calls before after bag bag'
+    (calls : List Event) × (map question_of calls ≡ offers) × MadeCalls law calls before after bag bag'
 
 -- Each number is below n.
 abbrev pub AllBelow : ℕ → List ℕ → Type 0
@@ -118,13 +118,13 @@ AllBelow n (k ∷ ks) = (k < n) × AllBelow n ks
 
 -- The new receipts belong to exactly the jobs whose offers were made, each of them once. The claimer got a grant for
 -- each.
-pub record Goes (law : ℕ → Word → Type 0) (jobs : List Job) (number : ℕ) (before after : Did) : Type 0 where
+pub record Goes (law : ℕ → Word → Type 0) (jobs : List TaskOffers) (number : ℕ) (before after : Did) : Type 0 where
   pub calls : List Event
   pub more : List ℕ
-  pub made : Made law calls before.caller after.caller before.found after.found
+  pub made : MadeCalls law calls before.caller after.caller before.found after.found
   pub receipts : after.receipts ≡ before.receipts ++ more
   pub inside : AllBelow (length jobs) more
-  pub each : (h : Asked → ℕ) → calls_weight h calls ≡ weight_at h jobs more
+  pub each : (h : AskedOffer → ℕ) → calls_weight h calls ≡ weight_at h jobs more
   pub claims : after.claimer.table ≡ before.claimer.table
   pub granted : (slot round : ℕ) → times slot round (map (grant_at jobs number) more) + times slot round before.claimer.grants ≤ times slot round after.claimer.grants
 
@@ -135,7 +135,7 @@ abbrev pub IsRefused : (ℕ → Word → Type 0) → Knowledge → Held → Roun
 IsRefused law caller claimer r = IsLater law caller r.caller × (r.claimer.table ≡ claimer.table)
 
 -- This is what a group of at most this many workers answers.
-abbrev pub Answers : (ℕ → Word → Type 0) → List Job → (number : ℕ) → Knowledge → Held → (count : ℕ) → Result Done RoundRefused → Type 0
+abbrev pub Answers : (ℕ → Word → Type 0) → List TaskOffers → (number : ℕ) → Knowledge → Held → (count : ℕ) → Result Done RoundRefused → Type 0
 Answers law jobs number caller claimer count (Ok d) =
     Goes law jobs number (at_start caller claimer) (did d) × (1 ≤ d.started) × (d.started ≤ count)
 Answers law jobs number caller claimer count (Err r) = IsRefused law caller claimer r

@@ -17,11 +17,11 @@ pub struct RingBesideMap {
 }
 
 impl Model for RingBesideMap {
-    ghost use Rattle.sp_rounds.specs.Content.{Content};
+    ghost use Rattle.sp_rounds.specs.Content.{BucketsContent};
     ghost use Rattle.sp_rounds.specs.Window.{content_of};
     ghost use Rattle.sp_rounds.specs.Beside.{both, AreApart};
 
-    ghost Value = { Content };
+    ghost Value = { BucketsContent };
 
     ghost view = { λ b. both (content_of b.ring) b.map };
 

@@ -26,9 +26,9 @@ enum Kept {
 }
 
 impl Model for Buckets {
-    ghost use Rattle.sp_rounds.specs.Content.{Content};
+    ghost use Rattle.sp_rounds.specs.Content.{BucketsContent};
 
-    ghost Value = { Content };
+    ghost Value = { BucketsContent };
 
     ghost use Rattle.sp_rounds.specs.Kept.{kept_content, IsKept};
 

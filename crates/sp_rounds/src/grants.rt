@@ -12,14 +12,14 @@ pub struct Grant {
 }
 
 /// The grants that a claimer was given. No value of this type is made.
-pub struct View {
+pub struct GrantView {
     pub grants: LinkedList<Grant>,
 }
 
 /// Each slot and round is granted at most once, and a word is 0 or a round that was granted.
 pub struct OncePerRound;
 
-impl TableRule<(), View, usize> for OncePerRound {
+impl TableRule<(), GrantView, usize> for OncePerRound {
     ghost use Rattle.sp_rounds.specs.Grants.{Kept, nothing};
 
     ghost holds = { λ n s. Kept n s.words s.views };
@@ -30,7 +30,7 @@ impl TableRule<(), View, usize> for OncePerRound {
 /// A claim: if the word found is below the round, the grant is new; otherwise nothing changes.
 pub struct Claims;
 
-impl Play<(), View> for Claims {
+impl Play<(), GrantView> for Claims {
     ghost use Rattle.sp_rounds.specs.Grants.{Claimed};
 
     ghost then = { Claimed };
@@ -39,7 +39,7 @@ impl Play<(), View> for Claims {
 /// A load that records that no grant was given twice.
 pub struct Checks;
 
-impl Play<(), View> for Checks {
+impl Play<(), GrantView> for Checks {
     ghost use Rattle.sp_rounds.specs.Grants.{Checked};
 
     ghost then = { Checked };
@@ -48,7 +48,7 @@ impl Play<(), View> for Checks {
 /// A new claimer has no grants.
 pub struct Apart;
 
-impl Split<View> for Apart {
+impl Split<GrantView> for Apart {
     ghost use Rattle.sp_rounds.specs.Grants.{nothing};
 
     ghost left = { λ v. v };
@@ -59,7 +59,7 @@ impl Split<View> for Apart {
 /// The first claimer has the grants of both.
 pub struct Together;
 
-impl Join<View> for Together {
+impl Join<GrantView> for Together {
     ghost use Rattle.sp_rounds.specs.Grants.{nothing, both};
 
     ghost both = { both };

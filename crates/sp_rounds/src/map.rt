@@ -19,10 +19,10 @@ pub struct BucketMap {
 impl Model for BucketMap {
     ghost use Rattle.std.specs.Prelude.{◌<◌, None};
     ghost use Rattle.std.specs.BTreeMap.{values};
-    ghost use Rattle.sp_rounds.specs.Content.{Content};
+    ghost use Rattle.sp_rounds.specs.Content.{BucketsContent};
     ghost use Rattle.sp_rounds.specs.Filed.{all_entries, IsFiled};
 
-    ghost Value = { Content };
+    ghost Value = { BucketsContent };
 
     ghost view = { λ m. record {
       delta = m.delta;

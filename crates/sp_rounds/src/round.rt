@@ -10,7 +10,7 @@ ghost use Rattle.sp_rounds.specs.Rounds.{TakesTasks, IsReadyRound, IsRoundDone, 
 use crate::gate::Gate;
 use crate::table::Claimer;
 use crate::task::Round;
-use crate::workers::stealing::{OpenDeques, Start, TaskDeques, deal, run_workers};
+use crate::workers::stealing::{OpenDeques, TaskDeques, WorkerStart, deal, run_workers};
 use crate::workers::unfinished::{mark, run_left};
 use crate::workers::{Done, RoundOut, RoundRefused};
 use sp_offer::{Caller, Lawful, Loop, Lowering, OfferTable};
@@ -110,12 +110,12 @@ struct Tokens {
 
 /// What a round of several workers allocates before its first offer.
 #[derive(Drop)]
-struct Prepared {
+struct RoundMemory {
     marks: Vec<bool>,
     deques: TaskDeques,
 }
 
-fn prepare(alloc: Global, tasks: usize, workers: usize) -> Result<Prepared, AllocError>
+fn prepare(alloc: Global, tasks: usize, workers: usize) -> Result<RoundMemory, AllocError>
     requires { 0 < workers }
     ensures marks { IfOk result (λ p. p.marks.items ≡ replicate tasks false) }
     ensures len { IfOk result (λ p. vec_len p.marks ≡ tasks) }
@@ -123,7 +123,7 @@ fn prepare(alloc: Global, tasks: usize, workers: usize) -> Result<Prepared, Allo
 {
     let marks = vec![in alloc; false; tasks]?;
     let deques = deal(alloc, tasks, workers)?;
-    Ok(Prepared { marks, deques })
+    Ok(RoundMemory { marks, deques })
 }
 
 /// The leader runs all tasks alone.
@@ -168,7 +168,7 @@ fn run_shared<
     rt: &R,
     alloc: Global,
     round: &Round<L, P>,
-    prepared: Prepared,
+    prepared: RoundMemory,
     tokens: Tokens,
     gate: &G,
 ) -> Result<RoundOut, RoundRefused>
@@ -186,7 +186,7 @@ fn run_shared<
     ensures refused_claimer { IfErr result (λ r. r.claimer.table ≡ tokens.claimer.table) }
     ensures refused_legal { IfErr result (λ r. HasLegalHistoryIn L.allows round.now r.caller) }
 {
-    let Prepared { mut marks, deques } = prepared;
+    let RoundMemory { mut marks, deques } = prepared;
     let Tokens { caller, claimer } = tokens;
     let TaskDeques {
         mut owners,
@@ -195,7 +195,7 @@ fn run_shared<
     let Some(own) = owners.pop() else {
         return run_by_leader::<M, L, G, P>(alloc, round, caller, claimer, gate);
     };
-    let start = Start {
+    let start = WorkerStart {
         worker: 0,
         own,
         caller: look(round.table, caller),

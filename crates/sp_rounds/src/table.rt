@@ -2,7 +2,7 @@
 ghost use Rattle.std.specs.Prelude.{◌≡◌, ◌∷◌, ◌++◌, [], ◌<◌, IfOk, IsOkAnd, IfSome, IfNone, OnSome, replicate};
 ghost use Rattle.sp_rounds.specs.Grants.{times, EachOnce};
 
-use crate::grants::{Apart, Checks, Claims, Grant, OncePerRound, Together, View};
+use crate::grants::{Apart, Checks, Claims, Grant, GrantView, OncePerRound, Together};
 use atomic_table::{Seat, Table};
 use std::alloc::{AllocError, Global};
 use std::marker::Model;
@@ -10,7 +10,7 @@ use std::marker::Model;
 /// A table with a word for each slot: the greatest round that was claimed, at first 0. Contracts see which table it is.
 #[derive(Drop)]
 pub struct ClaimTable {
-    table: Table<(), View, usize, OncePerRound, Global>,
+    table: Table<(), GrantView, usize, OncePerRound, Global>,
 }
 
 impl Model for ClaimTable {
@@ -27,7 +27,7 @@ impl Model for ClaimTable {
 /// A thread's right to claim. Contracts see the table to which it belongs, and the grants that it was given.
 #[derive(Drop)]
 pub struct Claimer {
-    seat: Seat<(), View>,
+    seat: Seat<(), GrantView>,
 }
 
 impl Model for Claimer {

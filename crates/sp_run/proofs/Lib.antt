@@ -1,4 +1,3 @@
 pub mod LawfulWalks
-pub mod NearRun
+pub mod RunFromAny
 pub mod Marks
-pub mod Shown

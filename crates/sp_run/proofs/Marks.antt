@@ -11,7 +11,7 @@ use Rattle.sp_paths.proofs.RowSteps.{in_row}
 use Rattle.sp_graph.specs.declared.marks.Mark.{Mark}
 use Rattle.sp_graph.specs.Marks.{IsTrueMark}
 use Rattle.sp_offer.specs.Order.{IsNoMore}
-use Rattle.sp_scan.specs.Marked.{AreTrueMarks}
+use Rattle.sp_judge.specs.Marked.{AreTrueMarks}
 
 -- what is no more than a word is at most what that is
 at_most_too : (w x : Word) (d p : ℕ) → IsNoMore w x → IsAtMost x d p → IsAtMost w d p

@@ -1,4 +1,3 @@
 pub mod Walks
 pub mod Sources
-pub mod NearRun
-pub mod Shown
+pub mod RunFromAny

@@ -1,13 +1,12 @@
 //! The nearest of several sources.
 ghost use Rattle.std.specs.Prelude.{◌≡◌, ◌≤◌, true, IfOk, IfErr, IfSome};
 ghost use Rattle.sp_word.specs.Word.{is_layout, max_dist, max_pred};
-ghost use Rattle.sp_forest.specs.Nearest.{IsForestAnswer, IsRefusal};
+ghost use Rattle.sp_answer.specs.Nearest.{IsForestAnswer, IsRefusal};
 
-use crate::words::words_of_run;
-use sp_answer::RunError;
-use sp_forest::{Forest, Run, Until};
+use crate::run_words::words_of_run;
+use sp_answer::{Forest, RunError, RunRequest, Until};
 use sp_graph::Graph;
-use sp_word::{Crew, Meter, Team};
+use sp_word::{Meter, Team, ThreadsAndSleep};
 use std::alloc::Global;
 
 /// A query of the nearest source: the sources, in any order, and the greatest distance to report, if not all are wanted.
@@ -24,7 +23,7 @@ pub struct Nearest<'s> {
 ///
 /// The answer doesn't depend on the order of the sources, on how often one is named, on the number of threads, or on the width of
 /// a bucket. If no source is named, no vertex is reached.
-pub fn run_nearest<const P: u32, C: Crew>(
+pub fn run_nearest<const P: u32, C: ThreadsAndSleep>(
     rt: &C,
     alloc: Global,
     graph: &Graph,
@@ -39,7 +38,7 @@ pub fn run_nearest<const P: u32, C: Crew>(
     ensures refused { IfErr result (IsRefusal P graph.now sources.now limit) }
 {
     let until = Until::up_to(limit);
-    let run = Run { sources, until };
+    let run = RunRequest { sources, until };
     let words = words_of_run(rt, alloc, graph, team, &Meter::new(), run)?;
     words.forest(alloc, graph, sources, limit)
 }

@@ -4,20 +4,20 @@
 ghost use Rattle.std.specs.Prelude.{◌≡◌, ◌≤◌, true, All, IfOk};
 ghost use Rattle.sp_word.specs.Word.{is_layout, max_dist, max_pred};
 ghost use Rattle.sp_paths.specs.Paths.{IsVertex, word_at};
-ghost use Rattle.sp_scan.specs.Marked.{AreTrueMarks};
-ghost use Rattle.sp_run.specs.NearRun.{TakesWalks, KnowsOwn, IsOfWalks};
+ghost use Rattle.sp_judge.specs.Marked.{AreTrueMarks};
+ghost use Rattle.sp_run.specs.RunFromAny.{TakesWalks, KnowsOwn, IsOfWalks};
 
-use crate::near_walks::NearWalks;
+use crate::walks_from_any::WalksFromAny;
 use sp_graph::Graph;
 use sp_offer::{Caller, OfferTable};
 use sp_team::{Relaxed, Search, relax_all};
-use sp_word::{Crew, Meter, Team, Word};
+use sp_word::{Meter, Team, ThreadsAndSleep, Word};
 use std::alloc::{AllocError, Global};
 use std::marker::Model;
 
 /// A run from sources of a graph, by a team. Contracts see the graph and the sources.
 #[derive(Drop)]
-pub(crate) struct NearRun<'g, const P: u32> {
+pub(crate) struct RunFromAny<'g, const P: u32> {
     pub(crate) alloc: Global,
     pub(crate) graph: &'g Graph,
     pub(crate) sources: &'g [u32],
@@ -26,11 +26,11 @@ pub(crate) struct NearRun<'g, const P: u32> {
     pub(crate) meter: &'g Meter,
 }
 
-impl<'g, const P: u32> Model for NearRun<'g, P> {
-    ghost use Rattle.sp_run.specs.Sources.{Sources};
-    ghost use Rattle.sp_run.specs.NearRun.{IsPlace};
+impl<'g, const P: u32> Model for RunFromAny<'g, P> {
+    ghost use Rattle.sp_run.specs.Sources.{WalkSources};
+    ghost use Rattle.sp_run.specs.RunFromAny.{IsPlace};
 
-    ghost Value = { Sources };
+    ghost Value = { WalkSources };
 
     ghost view = { λ r. record { graph = r.graph.now; sources = r.sources.now } };
 
@@ -40,7 +40,7 @@ impl<'g, const P: u32> Model for NearRun<'g, P> {
 
 // Offers each of the sources its own pair.
 fn offer_sources<'g, const P: u32>(
-    table: &OfferTable<NearWalks<'g>, P>,
+    table: &OfferTable<WalksFromAny<'g>, P>,
     sources: &[u32],
     caller: &mut Caller,
 )
@@ -56,7 +56,7 @@ fn offer_sources<'g, const P: u32>(
     }
 }
 
-impl<'g, const P: u32> NearRun<'g, P> {
+impl<'g, const P: u32> RunFromAny<'g, P> {
     /// Makes a run from vertices of the graph.
     pub(crate) fn new(
         alloc: Global,
@@ -64,7 +64,7 @@ impl<'g, const P: u32> NearRun<'g, P> {
         sources: &'g [u32],
         team: Team<P>,
         meter: &'g Meter,
-    ) -> NearRun<'g, P>
+    ) -> RunFromAny<'g, P>
         requires layout { is_layout P ≡ true }
         requires most { graph.now.n ≤ max_pred P }
         requires vertices { All (IsVertex graph.now.n) sources.now }
@@ -72,7 +72,7 @@ impl<'g, const P: u32> NearRun<'g, P> {
         ensures sources { result.sources ≡ sources.entry.now }
     {
         let _ = graph.n();
-        NearRun {
+        RunFromAny {
             alloc,
             graph,
             sources,
@@ -82,12 +82,12 @@ impl<'g, const P: u32> NearRun<'g, P> {
     }
 
     /// Makes the table of the run, in which each source has its pair.
-    pub(crate) fn open(&self) -> Result<(OfferTable<NearWalks<'g>, P>, Caller), AllocError>
+    pub(crate) fn open(&self) -> Result<(OfferTable<WalksFromAny<'g>, P>, Caller), AllocError>
         ensures table { IfOk result (λ made. TakesWalks self.now made.0.law made.0.vertices) }
         ensures caller { IfOk result (λ made. made.1.table ≡ made.0.id) }
         ensures own { IfOk result (λ made. KnowsOwn self.now.sources made.1) }
     {
-        let walks = NearWalks::new(self.graph, self.sources);
+        let walks = WalksFromAny::new(self.graph, self.sources);
         let (table, mut caller) = OfferTable::new(self.alloc, self.graph.n(), walks)?;
         offer_sources(&table, self.sources, &mut caller);
         Ok((table, caller))
@@ -95,10 +95,10 @@ impl<'g, const P: u32> NearRun<'g, P> {
 
     /// Lets the team relax the arcs that the queue asks for, as far as the targets and the limit require. Returns a copy of all
     /// words, in which the marks are true.
-    pub(crate) fn lower<C: Crew>(
+    pub(crate) fn lower<C: ThreadsAndSleep>(
         &self,
         rt: &C,
-        table: &OfferTable<NearWalks<'g>, P>,
+        table: &OfferTable<WalksFromAny<'g>, P>,
         search: &Search<P>,
         caller: Caller,
     ) -> Result<(Vec<Word<P>>, Relaxed), AllocError>

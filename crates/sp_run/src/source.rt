@@ -3,11 +3,10 @@ ghost use Rattle.std.specs.Prelude.{◌≡◌, ◌≤◌, true, IfOk, IfErr};
 ghost use Rattle.sp_word.specs.Word.{is_layout, max_pred};
 ghost use Rattle.sp_answer.specs.Answer.{IsAnswer, IsRefusal};
 
-use crate::words::words_of_run;
-use sp_answer::{RunError, Tree};
-use sp_forest::{Run, Until};
+use crate::run_words::words_of_run;
+use sp_answer::{RunError, RunRequest, Tree, Until};
 use sp_graph::Graph;
-use sp_word::{Crew, Delta, Meter, Team, Workers};
+use sp_word::{Delta, Meter, Team, ThreadsAndSleep, Workers};
 use std::alloc::Global;
 use std::thread;
 use std::thread::Threads;
@@ -44,7 +43,7 @@ pub fn useful_team<const P: u32, R: Threads>(rt: &R, n: u32, team: &Team<P>) -> 
 ///
 /// `delta` is the width of a bucket, and `workers` the greatest number of threads, including this one. The answer doesn't depend
 /// on either. There are never more threads than processors, and at most one for every few thousand vertices, but always this one.
-pub fn run_source<const P: u32, C: Crew>(
+pub fn run_source<const P: u32, C: ThreadsAndSleep>(
     rt: &C,
     alloc: Global,
     graph: &Graph,
@@ -66,7 +65,7 @@ pub fn run_source<const P: u32, C: Crew>(
 
 /// Does what `run_source` does, with exactly as many threads as the team has workers. They count the vertices that they relax
 /// on the meter.
-pub fn run_by_team<const P: u32, C: Crew>(
+pub fn run_by_team<const P: u32, C: ThreadsAndSleep>(
     rt: &C,
     alloc: Global,
     graph: &Graph,
@@ -79,7 +78,7 @@ pub fn run_by_team<const P: u32, C: Crew>(
     ensures tree { IfOk result (IsAnswer P graph.now source) }
     ensures refused { IfErr result (IsRefusal P graph.now source) }
 {
-    let run = Run {
+    let run = RunRequest {
         sources: &[source],
         until: Until::All,
     };

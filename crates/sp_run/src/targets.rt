@@ -1,18 +1,17 @@
 //! Runs for some targets of one source.
 ghost use Rattle.std.specs.Prelude.{◌≡◌, ◌≤◌, true, IfOk, IfErr};
 ghost use Rattle.sp_word.specs.Word.{is_layout, max_dist, max_pred};
-ghost use Rattle.sp_forest.specs.Run.{AreAllEnds, AreAnswersFor, IsTargetsRefusal};
+ghost use Rattle.sp_answer.specs.Run.{AreAllEnds, AreAnswersFor, IsTargetsRefusal};
 
-use crate::words::words_of_run;
-use sp_answer::{PairAnswer, RunError};
-use sp_forest::{Run, Until, are_vertices};
+use crate::run_words::words_of_run;
+use sp_answer::{PairAnswer, RunError, RunRequest, Until, are_vertices};
 use sp_graph::Graph;
-use sp_word::{Crew, Meter, Team};
+use sp_word::{Meter, Team, ThreadsAndSleep};
 use std::alloc::Global;
 
 /// A query for targets: the source, and the targets in any order.
 #[derive(Clone, Copy)]
-pub struct Query<'t> {
+pub struct TargetsQuestion<'t> {
     pub source: u32,
     pub targets: &'t [u32],
 }
@@ -22,13 +21,13 @@ pub struct Query<'t> {
 ///
 /// The answers don't depend on the number of threads or on the width of a bucket. The workers count the vertices that they relax
 /// on the meter.
-pub fn run_targets<const P: u32, C: Crew>(
+pub fn run_targets<const P: u32, C: ThreadsAndSleep>(
     rt: &C,
     alloc: Global,
     graph: &Graph,
     team: Team<P>,
     meter: &Meter,
-    query: Query,
+    query: TargetsQuestion,
 ) -> Result<Vec<PairAnswer>, RunError>
     requires layout { is_layout P ≡ true }
     requires n { graph.now.n ≤ max_pred P }
@@ -39,14 +38,14 @@ pub fn run_targets<const P: u32, C: Crew>(
     ensures refused { IfErr result
         (IsTargetsRefusal graph.now.n query.entry.source query.entry.targets.now) }
 {
-    let Query { source, targets } = query;
+    let TargetsQuestion { source, targets } = query;
     if !graph.has_vertex(source) || !are_vertices(graph, targets) {
         return Err(RunError::NoSuchVertex);
     }
     if targets.is_empty() {
         return Ok(Vec::new(alloc));
     }
-    let run = Run {
+    let run = RunRequest {
         sources: &[source],
         until: Until::Targets(targets),
     };

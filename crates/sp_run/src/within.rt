@@ -3,11 +3,10 @@ ghost use Rattle.std.specs.Prelude.{◌≡◌, ◌≤◌, true, IfOk, IfErr};
 ghost use Rattle.sp_word.specs.Word.{is_layout, max_dist, max_pred};
 ghost use Rattle.sp_answer.specs.Within.{IsTreeWithin, IsRefusalWithin};
 
-use crate::words::words_of_run;
-use sp_answer::{RunError, Tree};
-use sp_forest::{Run, Until};
+use crate::run_words::words_of_run;
+use sp_answer::{RunError, RunRequest, Tree, Until};
 use sp_graph::Graph;
-use sp_word::{Crew, Meter, Team};
+use sp_word::{Meter, Team, ThreadsAndSleep};
 use std::alloc::Global;
 
 /// Returns the part of the shortest-path tree within a distance of its source: the vertices whose least length is at most the
@@ -15,7 +14,7 @@ use std::alloc::Global;
 ///
 /// Vertices beyond the limit don't matter, however far they are. The answer doesn't depend on the number of threads or on the
 /// width of a bucket.
-pub fn run_within<const P: u32, C: Crew>(
+pub fn run_within<const P: u32, C: ThreadsAndSleep>(
     rt: &C,
     alloc: Global,
     graph: &Graph,
@@ -29,7 +28,7 @@ pub fn run_within<const P: u32, C: Crew>(
     ensures tree { IfOk result (IsTreeWithin graph.now source limit) }
     ensures refused { IfErr result (IsRefusalWithin graph.now source) }
 {
-    let run = Run {
+    let run = RunRequest {
         sources: &[source],
         until: Until::Limit(limit),
     };

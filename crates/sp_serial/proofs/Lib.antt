@@ -1,6 +1,5 @@
 pub mod Lowered
 pub mod Started
-pub mod Telling
 pub mod Touching
 pub mod PartRows
 pub mod RootedRows

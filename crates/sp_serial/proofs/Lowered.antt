@@ -7,8 +7,8 @@ use Rattle.sp_paths.specs.declared.arc.Arc.{Arc}
 use Rattle.sp_paths.specs.Paths.{Graph, IsGraph, IsArc}
 use Rattle.sp_paths.specs.Rows.{row_of}
 use Rattle.sp_paths.proofs.RowSteps.{in_row}
-use Rattle.sp_plain.specs.Lowering.{IsLoweredBy}
-use Rattle.sp_plain.proofs.LoweringSteps.{lowered_then}
+use Rattle.sp_judge.specs.Lowering.{IsLoweredBy}
+use Rattle.sp_judge.proofs.LoweringSteps.{lowered_then}
 use Rattle.sp_serial.specs.Lowers.{AreArcs, HasLowered}
 
 -- what a list of arcs has beyond its end

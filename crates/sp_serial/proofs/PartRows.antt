@@ -6,13 +6,13 @@ use Rattle.sp_word.specs.Word.{Word, Unreached, Pair, dist_of, pred_of, max_dist
 use Rattle.sp_paths.specs.Paths.{Graph, IsGraph, IsVertex, word_at}
 use Rattle.sp_answer.specs.Table.{TreeTable, AreRows, IsPairWithin, IsTable, last_after, last_vertex, table_of, with_row, word_in}
 use Rattle.sp_answer.specs.Within.{IsTreeWithin, up_to}
-use Rattle.sp_forest.specs.Forests.{IsForestWord}
-use Rattle.sp_forest.specs.Run.{AreRunWords}
-use Rattle.sp_forest.proofs.Walks.{any_vertex}
-use Rattle.sp_forest.proofs.OneForest.{forest_of_one_is_tree}
-use Rattle.sp_forest.specs.declared.asked.Until.TheVariants.{Limit}
+use Rattle.sp_paths.specs.Forests.{IsForestWord}
+use Rattle.sp_answer.specs.Run.{AreRunWords}
+use Rattle.sp_paths.proofs.ForestWalks.{any_vertex}
+use Rattle.sp_paths.proofs.OneForest.{forest_of_one_is_tree}
+use Rattle.sp_answer.specs.declared.asked.Until.TheVariants.{Limit}
 use Rattle.sp_serial.specs.Part.{HasGained, HasNoOther, IsPartOf, HasPart}
-use Rattle.sp_serial.specs.Touched.{AreTouched}
+use Rattle.sp_serial.specs.TrackedWords.{AreTouched}
 
 -- ## One row
 
@@ -112,7 +112,7 @@ pushed_more s limit words reached i v t after at before gained = record {
 
 -- every vertex with a word is listed
 pub pushed_all : (s limit : ℕ) (words : List Word) (reached : List ℕ) (count : ℕ) (t : TreeTable) → length reached ≤ count → AreTouched 0 reached words → ArePushed s limit words reached count t → IsPartOf s limit words t
-pushed_all s limit words reached count t all touched pushed = record {
+pushed_all s limit words reached count t all tracked pushed = record {
   n = pushed.n;
   source = pushed.source;
   each = λ v at. each v at (word_at words v) refl (pushed.no_other v);
@@ -122,7 +122,7 @@ pushed_all s limit words reached count t all touched pushed = record {
     each v at w is (inr same) = same
     each v at Unreached is (inl none) = none ∙ sym (ap (up_to limit) is)
     each v at (Pair d p) is (inl none) =
-        let (k, from, less, same) = touched.covers v d p at is in
+        let (k, from, less, same) = tracked.covers v d p at is in
         subst (λ (u : ℕ). table_of t u ≡ up_to limit (word_at words u)) same (pushed.each k 0 (omega (arith, less, all)))
 
 -- ## The part of the forest

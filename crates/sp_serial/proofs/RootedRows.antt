@@ -9,13 +9,13 @@ use Rattle.sp_word.specs.History.{Table}
 use Rattle.sp_paths.specs.Paths.{Graph, IsGraph, IsVertex, IsLeast}
 use Rattle.sp_answer.specs.Table.{TreeTable, IsTable, table_of, word_in}
 use Rattle.sp_answer.proofs.RisingRows.{row_found}
-use Rattle.sp_forest.specs.Roots.{LeadsBack, IsRoot}
-use Rattle.sp_forest.specs.ForestTable.{ForestTable, Row, root_in, row_in, word_of}
-use Rattle.sp_forest.specs.ForestTable.{table_of as word_in_forest}
-use Rattle.sp_forest.specs.Forests.{IsForestWord, IsForestWithin}
-use Rattle.sp_forest.proofs.Chains.{part_has_roots}
-use Rattle.sp_forest.proofs.RootSteps.{root_on}
-use Rattle.sp_forest.specs.Nearest.{HasRoots, IsForestAnswer}
+use Rattle.sp_paths.specs.Roots.{LeadsBack, IsRoot}
+use Rattle.sp_answer.specs.ForestTable.{ForestTable, Row, root_in, row_in, word_of}
+use Rattle.sp_answer.specs.ForestTable.{table_of as word_in_forest}
+use Rattle.sp_paths.specs.Forests.{IsForestWord, IsForestWithin}
+use Rattle.sp_paths.proofs.Chains.{part_has_roots}
+use Rattle.sp_answer.proofs.RootSteps.{root_on}
+use Rattle.sp_answer.specs.Nearest.{HasRoots, IsForestAnswer}
 use Rattle.sp_serial.specs.Part.{HasPart}
 use Rattle.sp_serial.specs.Rooted.{AreKnownRoots, HasRow, IsForestOf, IsRowAt}
 

@@ -5,10 +5,10 @@ use Rattle.std.proofs.lemmas.Bool.{cases_eq, cases_lt}
 use Rattle.std.proofs.lemmas.List.{length-replicate, get_or-replicate, get_or_default}
 use Rattle.sp_word.specs.Word.{Word, Unreached, Pair}
 use Rattle.sp_paths.specs.Paths.{Graph, IsVertex, word_at}
-use Rattle.sp_forest.specs.Forests.{IsLawful}
-use Rattle.sp_plain.specs.Passing.{IsSmall}
-use Rattle.sp_plain.specs.Several.{IsTableOfAny}
-use Rattle.sp_plain.proofs.PassSteps.{word_other, word_same}
+use Rattle.sp_paths.specs.Forests.{IsLawful}
+use Rattle.sp_judge.specs.Passing.{IsSmall}
+use Rattle.sp_judge.specs.Several.{IsTableOfAny}
+use Rattle.sp_judge.proofs.PassSteps.{word_other, word_same}
 
 -- an unreached word, or a source's own
 abbrev pub IsFirstWord : (sources : List ℕ) → (v : ℕ) → Word → Type 0

@@ -7,11 +7,11 @@ use Rattle.std.proofs.lemmas.List.Sorted.{All-permutation, Contains-permutation}
 use Rattle.std.specs.List.Sorted.{IsPermutation}
 use Rattle.sp_word.specs.Word.{Word, Unreached, Pair}
 use Rattle.sp_paths.specs.declared.arc.Arc.{Arc}
-use Rattle.sp_paths.specs.Paths.{Graph, IsArc, IsVertex, word_at}
-use Rattle.sp_scan.specs.Shown.{IsRowClosedUpTo, IsClosedUpTo}
-use Rattle.sp_plain.specs.Lowering.{Step, AreSteps, IsLoweredBy}
-use Rattle.sp_plain.proofs.PassSteps.{word_other, word_same}
-use Rattle.sp_serial.specs.Touched.{AreTouched, IsAmong}
+use Rattle.sp_paths.specs.Paths.{IsArc, IsVertex, word_at}
+use Rattle.sp_judge.specs.Asked.{AreReached}
+use Rattle.sp_judge.specs.Lowering.{Step, AreSteps, IsLoweredBy}
+use Rattle.sp_judge.proofs.PassSteps.{word_other, word_same}
+use Rattle.sp_serial.specs.TrackedWords.{AreTouched, IsAmong}
 
 one : (a x : Arc) → Contains (a ∷ []) x → a ≡ x
 one a x (zero, low, is) = is
@@ -37,11 +37,12 @@ touched_by max arc reached before after in' size t among by = record {
         let steps = by (arc ∷ []) (0, omega arith, refl) in
         t.covers v d p at (sym (elsewhere max arc v in'.1.0 at.0 other steps.0 before after steps.1) ∙ is)
 
--- every other vertex is unreached, so that its arcs are relaxed up to any distance
-pub closed_by : (g : Graph) (max far : ℕ) (reached : List ℕ) (words : List Word) → length words ≡ g.n → AreTouched 0 reached words → ((k d : ℕ) → k < length reached → IsRowClosedUpTo g max far (word_at words) (get_or reached k d)) → IsClosedUpTo g max far (word_at words)
-closed_by g max far reached words size t each u at d p is low =
-    let (k, from, less, same) = t.covers u d p (subst (λ (n : ℕ). IsVertex n u) (sym size) at) is in
-    subst (λ (v : ℕ). IsRowClosedUpTo g max far (word_at words) v) same (each k 0 less) d p is low
+-- the list has each vertex with a word
+pub all_reached : (reached : List ℕ) (words : List Word) → AreTouched 0 reached words → AreReached words reached
+all_reached reached words t = record {
+  vertices = t.vertices;
+  covers = λ v d p at is. let (k, from, low, same) = t.covers v d p at is in (k, low, get_or_default reached k v 0 low ∙ same);
+}
 
 -- the vertex at a place is unreached again, and stands behind the place no more
 pub touched_less : (i : ℕ) (reached : List ℕ) (words : List Word) → i < length reached → AreTouched i reached words → AreTouched (i + 1) reached (set words (get_or reached i 0 - 1) Unreached)

@@ -1,5 +1,4 @@
-pub mod Bearing
-pub mod Touched
+pub mod TrackedWords
 pub mod Part
 pub mod Rooted
 pub mod Live

@@ -3,7 +3,7 @@ use Rattle.std.specs.Prelude.{◌≡◌, ℕ, ◌≤◌, List, length, true, All
 use Rattle.sp_word.specs.Word.{Word, is_layout, max_dist, max_pred}
 use Rattle.sp_paths.specs.declared.arc.Arc.{Arc}
 use Rattle.sp_paths.specs.Paths.{Graph}
-use Rattle.sp_plain.specs.Lowering.{IsLowered}
+use Rattle.sp_judge.specs.Lowering.{IsLowered}
 
 -- Each vertex has a word, in a layout with room for all of them, and what a table maintains beside the words holds.
 pub record CanLower (P : ℕ) (g : Graph) (words : List Word) (Kept : Type 0) : Type 0 where

@@ -4,7 +4,7 @@ use Rattle.sp_word.specs.Word.{Word, Unreached}
 use Rattle.sp_paths.specs.Paths.{Graph, IsVertex, word_at}
 use Rattle.sp_answer.specs.Table.{TreeTable, table_of}
 use Rattle.sp_answer.specs.Within.{up_to}
-use Rattle.sp_forest.specs.Forests.{IsForestWithin}
+use Rattle.sp_paths.specs.Forests.{IsForestWithin}
 
 -- The vertex has this word in the tree, or no row.
 abbrev pub HasNoOther : TreeTable → (v : ℕ) → Word → Type 0

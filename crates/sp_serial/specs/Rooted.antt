@@ -2,9 +2,9 @@
 use Rattle.std.specs.Prelude.{◌≡◌, ℕ, ◌<◌, List, [], ◌∷◌, ◌++◌, Some, length, slice_index_or}
 use Rattle.sp_word.specs.Word.{Word, Pair}
 use Rattle.sp_answer.specs.Table.{TreeTable, table_of}
-use Rattle.sp_forest.specs.Roots.{IsRoot}
-use Rattle.sp_forest.specs.ForestTable.{ForestTable, root_of}
-use Rattle.sp_forest.specs.ForestTable.{table_of as word_in_forest}
+use Rattle.sp_paths.specs.Roots.{IsRoot}
+use Rattle.sp_answer.specs.ForestTable.{ForestTable, root_of}
+use Rattle.sp_answer.specs.ForestTable.{table_of as word_in_forest}
 
 -- The row at this place is that of v.
 abbrev pub IsRowAt : List (ℕ × Word) → (v place : ℕ) → Type 0

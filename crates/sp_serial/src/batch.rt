@@ -11,9 +11,9 @@ ghost use Rattle.sp_serial.specs.Lowers.{AreArcs, CanLower, HasLowered};
 
 use crate::live::{count_live, end_bits, take_live};
 use crate::table::Table;
-use crate::touched::is_arc_relaxed;
 use sp_bins::{Bins, Entry};
 use sp_graph::{Graph, look_up};
+use sp_judge::is_arc_relaxed;
 use sp_paths::Arc;
 use sp_word::Word;
 use std::alloc::{AllocError, Global};
@@ -36,17 +36,17 @@ const FEW_ARCS: usize = 4;
 
 /// Memory for the entries that are processed together.
 #[derive(Drop)]
-pub(crate) struct Batch {
+pub(crate) struct BatchBuffers {
     // Room for the vertices that still have the distance of their entry.
     vertices: Vec<u32>,
     // Arcs of these vertices that wait to be relaxed.
     arcs: Vec<Arc>,
 }
 
-impl Batch {
+impl BatchBuffers {
     /// Returns an empty one, which grows as it is used.
-    pub(crate) fn new(alloc: Global) -> Batch {
-        Batch {
+    pub(crate) fn new(alloc: Global) -> BatchBuffers {
+        BatchBuffers {
             vertices: Vec::new(alloc),
             arcs: Vec::new(alloc),
         }
@@ -284,7 +284,7 @@ fn make_room(vertices: &mut Vec<u32>, count: usize) -> Result<(), AllocError>
 fn relax_some<T: Table<P>, const P: u32>(
     graph: &Graph,
     entries: &[Entry],
-    batch: &mut Batch,
+    batch: &mut BatchBuffers,
     table: &mut T,
     bins: &mut Bins,
 ) -> Result<(), AllocError>
@@ -298,7 +298,7 @@ fn relax_some<T: Table<P>, const P: u32>(
     if count_live(graph, table.words(), entries) == 0 {
         return Ok(());
     }
-    let Batch { vertices, arcs } = batch;
+    let BatchBuffers { vertices, arcs } = batch;
     make_room(vertices, entries.len())?;
     let live = take_live(graph, table.words(), entries, vertices);
     let live = &vertices[..live];
@@ -313,7 +313,7 @@ fn relax_some<T: Table<P>, const P: u32>(
 pub(crate) fn relax_rows<T: Table<P>, const P: u32>(
     graph: &Graph,
     entries: &[Entry],
-    batch: &mut Batch,
+    batch: &mut BatchBuffers,
     table: &mut T,
     bins: &mut Bins,
 ) -> Result<(), AllocError>

@@ -1,8 +1,6 @@
 //! The calling thread as an engine.
-use crate::words::words_alone;
-use sp_answer::RunError;
-use sp_engine::Engine;
-use sp_forest::{Run, RunWords};
+use crate::run_alone::words_alone;
+use sp_answer::{Engine, RunError, RunRequest, RunWords};
 use sp_graph::Graph;
 use std::alloc::Global;
 
@@ -13,7 +11,7 @@ pub struct ByCaller;
 impl<const P: u32> Engine<P> for ByCaller {
     ghost can_run = { λ _. Unit {0} };
 
-    fn run(&self, alloc: Global, graph: &Graph, run: Run) -> Result<RunWords<P>, RunError> {
+    fn run(&self, alloc: Global, graph: &Graph, run: RunRequest) -> Result<RunWords<P>, RunError> {
         words_alone::<P>(alloc, graph, run)
     }
 }

@@ -1,6 +1,6 @@
 //! Runs on the calling thread. They start no other thread and never wait. One kind of run answers every question about one source
-//! or several (`words_alone`), and `ByCaller` is the calling thread as an engine (`sp_engine`), off whose words a tree, a part, a forest
-//! and answers for targets are read. Where a small part of a graph is enough, a room finds it first (`near.rt`).
+//! or several (`words_alone`), and `ByCaller` is the calling thread as an engine (`sp_answer`), off whose words a tree, a part, a forest
+//! and answers for targets are read. Where a small part of a graph is enough, a search finds it first (`near.rt`).
 //!
 //! A run lowers the words bucket by bucket, as delta-stepping does (Meyer and Sanders, "Delta-stepping: a parallelizable shortest
 //! path algorithm", Journal of Algorithms 49 (2003)), with buckets that adapt their width. Then it checks the arcs that bear on
@@ -16,20 +16,19 @@ mod misses;
 mod near;
 mod part;
 mod reach;
-mod room;
-mod rooms;
 mod rooted;
+mod run_alone;
 mod search;
+mod search_buffers;
+mod search_pool;
 mod shelf;
-mod spare;
+mod spare_buffers;
 mod table;
-mod touched;
-mod words;
+mod tracked_words;
 
 pub use by_caller::ByCaller;
 pub use near::{answers_near, forest_near, part_near};
-pub use room::Room;
-pub use rooms::{OwnRoom, Rooms, RoomsOn};
-pub use sp_answer::{PairAnswer, RunError, Tree};
-pub use sp_forest::{Forest, Run, RunWords, Until};
-pub use words::words_alone;
+pub use run_alone::words_alone;
+pub use search_buffers::SearchBuffers;
+pub use search_pool::{OwnSearchPool, SearchPool, SearchPoolOn};
+pub use sp_answer::{Forest, PairAnswer, RunError, RunRequest, RunWords, Tree, Until};

@@ -2,12 +2,12 @@
 ghost use Rattle.std.specs.Prelude.{◌≡◌, All, IfOk, OnOk, length};
 ghost use Rattle.sp_word.specs.Word.{max_dist};
 ghost use Rattle.sp_paths.specs.Paths.{IsVertex};
-ghost use Rattle.sp_plain.specs.Several.{IsTableOfAny};
-ghost use Rattle.sp_serial.specs.Touched.{IsClear};
+ghost use Rattle.sp_judge.specs.Several.{IsTableOfAny};
+ghost use Rattle.sp_serial.specs.TrackedWords.{IsClear};
 
-use crate::search::{Bounds, open_bins, search};
+use crate::search::{SearchBounds, open_bins, search};
 use crate::table::Table;
-use sp_forest::Run;
+use sp_answer::RunRequest;
 use sp_graph::Graph;
 use std::alloc::{AllocError, Global};
 
@@ -38,7 +38,7 @@ fn start<T: Table<P>, const P: u32>(
 pub(crate) fn lower_from<T: Table<P>, const P: u32>(
     alloc: Global,
     graph: &Graph,
-    run: Run,
+    run: RunRequest,
     most: usize,
     table: &mut T,
     shift: &mut u32,
@@ -54,7 +54,13 @@ pub(crate) fn lower_from<T: Table<P>, const P: u32>(
     let _ = graph.n();
     let mut bins = open_bins(alloc, *shift, run.sources)?;
     start(graph, run.sources, table)?;
-    let ended = search(alloc, graph, Bounds::of(run.until, most), table, &mut bins)?;
+    let ended = search(
+        alloc,
+        graph,
+        SearchBounds::of(run.until, most),
+        table,
+        &mut bins,
+    )?;
     *shift = bins.shift();
     Ok(ended)
 }

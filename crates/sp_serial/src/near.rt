@@ -1,24 +1,22 @@
-//! What is asked of the neighbourhood of a source: a room looks for it first, at the cost of what it touches. Where the room has no
+//! What is asked of the neighbourhood of a source: a search looks for it first, at the cost of what it touches. Where it has no
 //! answer, an engine makes a run.
 ghost use Rattle.std.specs.Prelude.{◌≡◌, ◌≤◌, length, true, All, IfOk, IfErr, IfSome};
 ghost use Rattle.sp_word.specs.Word.{is_layout, max_dist, max_pred};
 ghost use Rattle.sp_paths.specs.Paths.{IsVertex};
 ghost use Rattle.sp_answer.specs.Within.{IsTreeWithin};
-ghost use Rattle.sp_forest.specs.Nearest.{IsForestAnswer, IsRefusal};
-ghost use Rattle.sp_forest.specs.Run.{AreAnswersFor};
+ghost use Rattle.sp_answer.specs.Nearest.{IsForestAnswer, IsRefusal};
+ghost use Rattle.sp_answer.specs.Run.{AreAnswersFor};
 
-use crate::rooms::RoomsOn;
+use crate::search_pool::SearchPoolOn;
 use crate::shelf::Shelf;
-use sp_answer::{PairAnswer, RunError, Tree};
-use sp_engine::{Engine, answers_of, forest_of, part_of};
-use sp_forest::Forest;
+use sp_answer::{Engine, Forest, PairAnswer, RunError, Tree, answers_of, forest_of, part_of};
 use sp_graph::Graph;
 use std::alloc::{AllocError, Global};
 
-/// Finds the part of the tree of a source within a limit: as a room has found it, or else by a run.
+/// Finds the part of the tree of a source within a limit: as a search has found it, or else by a run.
 pub fn part_near<const P: u32, E: Engine<P>, S: Shelf<P>>(
     engine: &E,
-    rooms: &RoomsOn<S, P>,
+    pool: &SearchPoolOn<S, P>,
     alloc: Global,
     graph: &Graph,
     source: u32,
@@ -31,7 +29,7 @@ pub fn part_near<const P: u32, E: Engine<P>, S: Shelf<P>>(
     requires limit { limit ≤ max_dist P }
     ensures { IfOk result (IsTreeWithin graph.now source limit) }
 {
-    if let Some(tree) = rooms.part(alloc, graph, source, limit) {
+    if let Some(tree) = pool.part(alloc, graph, source, limit) {
         return Ok(tree);
     }
     match part_of::<P, E>(engine, alloc, graph, source, limit) {
@@ -40,10 +38,10 @@ pub fn part_near<const P: u32, E: Engine<P>, S: Shelf<P>>(
     }
 }
 
-/// Finds the answers for targets of a source, in their order: near the source, in a room; or else by a run.
+/// Finds the answers for targets of a source, in their order: near the source, by a search; or else by a run.
 pub fn answers_near<const P: u32, E: Engine<P>, S: Shelf<P>>(
     engine: &E,
-    rooms: &RoomsOn<S, P>,
+    pool: &SearchPoolOn<S, P>,
     alloc: Global,
     graph: &Graph,
     source: u32,
@@ -58,7 +56,7 @@ pub fn answers_near<const P: u32, E: Engine<P>, S: Shelf<P>>(
         (λ answers. AreAnswersFor graph.now source (max_dist P) targets.now answers.items) }
     ensures size { IfOk result (λ answers. length answers.items ≡ length targets.now) }
 {
-    if let Some(answers) = rooms.find(alloc, graph, source, targets) {
+    if let Some(answers) = pool.find(alloc, graph, source, targets) {
         return Ok(answers);
     }
     match answers_of::<P, E>(engine, alloc, graph, source, targets) {
@@ -67,11 +65,11 @@ pub fn answers_near<const P: u32, E: Engine<P>, S: Shelf<P>>(
     }
 }
 
-/// Finds the forest of the sources, up to the limit if there is one, or the vertex that is too far: a small part as a room has found
-/// it, and any other forest by a run.
+/// Finds the forest of the sources, up to the limit if there is one, or the vertex that is too far: a small part as a search
+/// has found it, and any other forest by a run.
 pub fn forest_near<const P: u32, E: Engine<P>, S: Shelf<P>>(
     engine: &E,
-    rooms: &RoomsOn<S, P>,
+    pool: &SearchPoolOn<S, P>,
     alloc: Global,
     graph: &Graph,
     sources: &[u32],
@@ -86,7 +84,7 @@ pub fn forest_near<const P: u32, E: Engine<P>, S: Shelf<P>>(
     ensures refused { IfErr result (IsRefusal P graph.now sources.now limit) }
 {
     if let Some(within) = limit {
-        if let Some(forest) = rooms.forest(alloc, graph, sources, within) {
+        if let Some(forest) = pool.forest(alloc, graph, sources, within) {
             return Ok(forest);
         }
     }

@@ -5,13 +5,12 @@ ghost use Rattle.sp_word.specs.Word.{is_layout, max_dist, max_pred};
 ghost use Rattle.sp_paths.specs.Paths.{IsVertex};
 ghost use Rattle.sp_answer.specs.Table.{HasPredWithin};
 ghost use Rattle.sp_answer.specs.Within.{up_to};
-ghost use Rattle.sp_serial.specs.Touched.{AreTouched, IsClear};
+ghost use Rattle.sp_serial.specs.TrackedWords.{AreTouched, IsClear};
 ghost use Rattle.sp_serial.specs.Part.{HasGained, HasNoOther, IsPartOf, HasPart};
 
 use crate::reach::reach;
-use crate::touched::{Touched, sort};
-use sp_answer::Tree;
-use sp_forest::{Run, Until};
+use crate::tracked_words::{TrackedWords, sort};
+use sp_answer::{RunRequest, Tree, Until};
 use sp_graph::{Graph, look_up};
 use sp_word::Word;
 use std::alloc::{AllocError, Global};
@@ -60,20 +59,20 @@ fn tree_of<const P: u32>(
     graph: &Graph,
     source: u32,
     limit: u64,
-    touched: &Touched<P>,
+    tracked: &TrackedWords<P>,
 ) -> Result<Option<Tree<P>>, AllocError>
     requires layout { is_layout P ≡ true }
     requires source { IsVertex graph.now.n source }
     requires room { graph.now.n ≤ max_pred P }
-    requires size { vec_len touched.now.words ≡ graph.now.n }
-    requires preds { All (HasPredWithin graph.now.n) touched.now.words.items }
-    requires touched { AreTouched 0 touched.now.reached.items touched.now.words.items }
+    requires size { vec_len tracked.now.words ≡ graph.now.n }
+    requires preds { All (HasPredWithin graph.now.n) tracked.now.words.items }
+    requires tracked { AreTouched 0 tracked.now.reached.items tracked.now.words.items }
     ensures { IfOk result (λ found. IfSome found
-        (IsPartOf source limit touched.now.words.items)) }
+        (IsPartOf source limit tracked.now.words.items)) }
 {
     let mut tree = Tree::bare(alloc, graph.n(), source);
-    for vertex in &touched.reached {
-        let word = up_to(look_up(&touched.words, *vertex), limit);
+    for vertex in &tracked.reached {
+        let word = up_to(look_up(&tracked.words, *vertex), limit);
         if !push_word(&mut tree, *vertex, word)? {
             return Ok(None);
         }
@@ -89,22 +88,22 @@ pub(crate) fn rows_in<const P: u32>(
     sources: &[u32],
     limit: u64,
     most: usize,
-    touched: &mut Touched<P>,
+    tracked: &mut TrackedWords<P>,
 ) -> Result<Option<Tree<P>>, AllocError>
     requires some { 0 < length sources.now }
     requires sources { All (IsVertex graph.now.n) sources.now }
     requires limit { limit ≤ max_dist P }
-    requires clear { IsClear P graph.now touched.old.words.items }
-    ensures size { vec_len touched.new.words ≡ graph.now.n }
-    ensures touched { AreTouched 0 touched.new.reached.items touched.new.words.items }
+    requires clear { IsClear P graph.now tracked.old.words.items }
+    ensures size { vec_len tracked.new.words ≡ graph.now.n }
+    ensures tracked { AreTouched 0 tracked.new.reached.items tracked.new.words.items }
     ensures rows { IfOk result (λ found. IfSome found
         (HasPart graph.now sources.now limit)) }
 {
     let until = Until::Limit(limit);
     let _ = graph.n();
-    if !reach(alloc, graph, Run { sources, until }, most, touched)? {
+    if !reach(alloc, graph, RunRequest { sources, until }, most, tracked)? {
         return Ok(None);
     }
-    sort(touched);
-    tree_of(alloc, graph, sources[0], limit, touched)
+    sort(tracked);
+    tree_of(alloc, graph, sources[0], limit, tracked)
 }

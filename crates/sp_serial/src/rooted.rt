@@ -3,11 +3,10 @@ ghost use Rattle.std.specs.Prelude.{◌≡◌, ◌<◌, ℕ, length, slice_index
 ghost use Rattle.std.specs.Bool.{OnTrue};
 ghost use Rattle.sp_word.specs.Word.{Word as Label};
 ghost use Rattle.sp_answer.specs.Table.{table_of};
-ghost use Rattle.sp_forest.specs.Roots.{IsRoot};
+ghost use Rattle.sp_paths.specs.Roots.{IsRoot};
 ghost use Rattle.sp_serial.specs.Rooted.{AreKnownRoots, IsForestOf, IsRowAt, HasRow};
 
-use sp_answer::Tree;
-use sp_forest::Forest;
+use sp_answer::{Forest, Tree};
 use sp_word::Word;
 use std::alloc::{AllocError, Global};
 

@@ -2,17 +2,17 @@
 ghost use Rattle.std.specs.Prelude.{◌≡◌, length};
 ghost use Rattle.sp_serial.specs.Lowers.{CanLower, HasLowered};
 
-use crate::batch::{Batch, relax_rows};
+use crate::batch::{BatchBuffers, relax_rows};
 use crate::table::Table;
+use sp_answer::Until;
 use sp_bins::{Bins, Entry};
-use sp_forest::Until;
 use sp_graph::{Graph, look_up};
 use sp_word::Word;
 use std::alloc::{AllocError, Global};
 
 /// How far a search goes. This is only a schedule, about which contracts promise nothing.
 #[derive(Clone, Copy)]
-pub(crate) struct Bounds<'t> {
+pub(crate) struct SearchBounds<'t> {
     /// It ends when all of these have their final words, if there are any, ..
     targets: &'t [u32],
     /// .. or when no entry within this distance is left.
@@ -21,10 +21,10 @@ pub(crate) struct Bounds<'t> {
     most: usize,
 }
 
-impl<'t> Bounds<'t> {
+impl<'t> SearchBounds<'t> {
     /// Returns how far a search goes for what is asked, and when it gives up.
-    pub(crate) fn of(until: Until<'t>, most: usize) -> Bounds<'t> {
-        Bounds {
+    pub(crate) fn of(until: Until<'t>, most: usize) -> SearchBounds<'t> {
+        SearchBounds {
             targets: until.targets(),
             limit: until.limit(),
             most,
@@ -86,7 +86,7 @@ pub(crate) fn open_bins(alloc: Global, shift: u32, sources: &[u32]) -> Result<Bi
 pub(crate) fn search<T: Table<P>, const P: u32>(
     alloc: Global,
     graph: &Graph,
-    bounds: Bounds,
+    bounds: SearchBounds,
     table: &mut T,
     bins: &mut Bins,
 ) -> Result<bool, AllocError>
@@ -94,7 +94,7 @@ pub(crate) fn search<T: Table<P>, const P: u32>(
     ensures { HasLowered P graph.now
         (T.labels table.old) (T.labels table.new) (T.IsKept table.new) }
 {
-    let mut batch = Batch::new(alloc);
+    let mut batch = BatchBuffers::new(alloc);
     let mut entries = Vec::new(alloc);
     let mut left = bounds.most;
     let mut open = 0;

@@ -2,10 +2,10 @@
 ghost use Rattle.std.specs.Prelude.{◌≡◌, ◌-◌, ◌≤◌, true, List, length, slice_set, OnOk};
 ghost use Rattle.sp_word.specs.Word.{Word as Label, Pair, is_layout, max_dist, max_pred};
 ghost use Rattle.sp_paths.specs.Paths.{IsArc, IsVertex};
-ghost use Rattle.sp_plain.specs.Lowering.{IsLoweredBy};
+ghost use Rattle.sp_judge.specs.Lowering.{IsLoweredBy};
 
+use sp_judge::relax;
 use sp_paths::Arc;
-use sp_plain::relax;
 use sp_word::Word;
 use std::alloc::AllocError;
 

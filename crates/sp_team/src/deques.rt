@@ -1,7 +1,10 @@
-//! The deques of a team.
+//! The deques of a team, and stealing from any deques.
 use crate::chunk::Chunk;
-use crossbeam_deque::{Stealer, Worker};
+use crossbeam_deque::{Steal, Stealer, Worker};
 use std::alloc::{AllocError, Global};
+
+/// How many times a thief tries a deque that neither returns an item nor is empty.
+const TRIES: u32 = 100;
 
 /// The deques of a team: each worker's own end, and the end from which the others steal.
 #[derive(Drop)]
@@ -20,4 +23,26 @@ pub fn make_deques(alloc: Global, workers: usize) -> Result<TeamDeques, AllocErr
         owners.push(own)?;
     }
     Ok(TeamDeques { owners, stealers })
+}
+
+// Steals from a deque, if it can.
+fn steal_one<T>(stealer: &Stealer<T>) -> Option<T> {
+    for _ in 0..TRIES {
+        match stealer.steal() {
+            Steal::Success(found) => return Some(found),
+            Steal::Empty => return None,
+            Steal::Retry => {}
+        }
+    }
+    None
+}
+
+/// Steals from the first of the deques from which it can.
+pub fn steal<T>(stealers: &[Stealer<T>]) -> Option<T> {
+    for stealer in stealers {
+        if let Some(found) = steal_one(stealer) {
+            return Some(found);
+        }
+    }
+    None
 }

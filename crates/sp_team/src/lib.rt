@@ -10,14 +10,15 @@ mod chunk;
 mod common;
 mod deques;
 mod entries;
-mod hands;
 mod notes;
 mod relax;
 mod search;
 mod signals;
 mod tally;
 mod team;
+mod work_queue;
 
+pub use deques::steal;
 pub use search::Search;
 pub use sp_word::Team;
 pub use team::{Relaxed, relax_all};

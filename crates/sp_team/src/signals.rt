@@ -1,6 +1,6 @@
 //! The signals that workers of a team exchange. They are all advice: nothing is proved about them, and no proof rests on them.
 
-use sp_word::Crew;
+use sp_word::ThreadsAndSleep;
 use std::alloc::{AllocError, Global};
 use std::sync::atomic::{AtomicU64, Ordering};
 
@@ -9,14 +9,14 @@ const NONE: u64 = u64::MAX;
 
 /// A number in a cache line of its own.
 #[derive(Drop)]
-struct Line {
+struct CacheLine {
     number: AtomicU64,
     _room: [u64; 15],
 }
 
-impl Line {
-    fn new(number: u64) -> Line {
-        Line {
+impl CacheLine {
+    fn new(number: u64) -> CacheLine {
+        CacheLine {
             number: AtomicU64::new(number),
             _room: [0; 15],
         }
@@ -43,17 +43,17 @@ impl Line {
 #[derive(Drop)]
 pub struct Signals {
     // The number of workers that have entries or are stealing a shared chunk.
-    active: Line,
+    active: CacheLine,
     // The number of workers that look for work.
-    hungry: Line,
+    hungry: CacheLine,
     // The number of chunks in deques.
-    shared: Line,
+    shared: CacheLine,
     // The number of workers that sleep.
-    asleep: Line,
+    asleep: CacheLine,
     // Changes when sleeping workers should look again.
-    bell: Line,
+    bell: CacheLine,
     // For each worker, the least distance of the bucket that it empties.
-    levels: Vec<Line>,
+    levels: Vec<CacheLine>,
 }
 
 impl Signals {
@@ -61,14 +61,14 @@ impl Signals {
     pub fn new(alloc: Global, workers: usize) -> Result<Signals, AllocError> {
         let mut levels = Vec::with_capacity(alloc, workers)?;
         for worker in 0..workers {
-            levels.push(Line::new(if worker == 0 { 0 } else { NONE }))?;
+            levels.push(CacheLine::new(if worker == 0 { 0 } else { NONE }))?;
         }
         Ok(Signals {
-            active: Line::new(1),
-            hungry: Line::new(0),
-            shared: Line::new(0),
-            asleep: Line::new(0),
-            bell: Line::new(0),
+            active: CacheLine::new(1),
+            hungry: CacheLine::new(0),
+            shared: CacheLine::new(0),
+            asleep: CacheLine::new(0),
+            bell: CacheLine::new(0),
             levels,
         })
     }
@@ -156,7 +156,7 @@ impl Signals {
     }
 
     /// Sleeps until a wake-up call, or for at most `micros` microseconds. Returns at once if there is something to do.
-    pub(crate) fn sleep<C: Crew>(&self, rt: &C, micros: u64) {
+    pub(crate) fn sleep<C: ThreadsAndSleep>(&self, rt: &C, micros: u64) {
         self.asleep.raise();
         let seen = self.bell.get();
         if self.shared.get() == 0 && !self.is_over() {

@@ -13,15 +13,15 @@ ghost use Rattle.sp_team.specs.Marked.{AllTrue, AreTrue};
 use crate::chunk::Chunk;
 use crate::common::Common;
 use crate::entries::{end_bits, is_live, leads_on, read_dist, warm_vertices};
-use crate::hands::Hands;
 use crate::notes::Notes;
 use crate::relax::{answer, ask};
 use crate::search::{Horizon, Search};
+use crate::work_queue::WorkQueue;
 use crossbeam_deque::Worker;
 use sp_bins::Entry;
 use sp_graph::{Graph, Mark};
 use sp_offer::{Caller, Lawful, OfferTable};
-use sp_word::{Crew, Meter};
+use sp_word::{Meter, ThreadsAndSleep};
 use std::alloc::{AllocError, Global};
 use std::thread::join;
 
@@ -109,7 +109,7 @@ impl<const P: u32> Batch<P> {
 fn take_live<L: Lawful, const P: u32>(
     graph: &Graph,
     table: &OfferTable<L, P>,
-    hands: &mut Hands,
+    work_queue: &mut WorkQueue,
     horizon: Horizon,
     live: &mut Vec<Entry>,
     caller: &mut Caller,
@@ -120,7 +120,7 @@ fn take_live<L: Lawful, const P: u32>(
     ensures live { OnOk result (All (IsLive (lawful P (L.allows table.now.law)) graph.now)
         live.new.items) }
 {
-    hands.take(STRETCH, live)?;
+    work_queue.take(STRETCH, live)?;
     let mut relaxed: usize = 0;
     let mut kept: usize = 0;
     for place in 0..live.len() {
@@ -139,7 +139,7 @@ fn take_live<L: Lawful, const P: u32>(
 fn relax_live<L: Lawful, const P: u32>(
     graph: &Graph,
     table: &OfferTable<L, P>,
-    hands: &mut Hands,
+    work_queue: &mut WorkQueue,
     batch: &mut Batch<P>,
     caller: &mut Caller,
 ) -> Result<(), AllocError>
@@ -156,9 +156,9 @@ fn relax_live<L: Lawful, const P: u32>(
     let Batch { live, notes } = batch;
     notes.requests.clear();
     for entry in live.as_slice() {
-        ask(graph, table, *entry, notes, caller, hands.bins())?;
+        ask(graph, table, *entry, notes, caller, work_queue.bins())?;
     }
-    answer(table, &mut notes.requests, caller, hands.bins())
+    answer(table, &mut notes.requests, caller, work_queue.bins())
 }
 
 // Processes some entries, and drops those beyond the horizon. It makes several passes: each reads, for all entries, the places
@@ -166,7 +166,7 @@ fn relax_live<L: Lawful, const P: u32>(
 fn run_some<L: Lawful, const P: u32>(
     graph: &Graph,
     table: &OfferTable<L, P>,
-    hands: &mut Hands,
+    work_queue: &mut WorkQueue,
     horizon: Horizon,
     batch: &mut Batch<P>,
     caller: &mut Caller,
@@ -179,20 +179,20 @@ fn run_some<L: Lawful, const P: u32>(
     ensures marks { OnOk result (AllTrue (max_dist P) graph.now caller.new.story
         batch.new.notes.marks.items) }
 {
-    let arcs = warm_vertices(graph, table, hands.upcoming(STRETCH), caller);
-    let relaxed = take_live(graph, table, hands, horizon, &mut batch.live, caller)?;
-    hands.count(relaxed);
+    let arcs = warm_vertices(graph, table, work_queue.upcoming(STRETCH), caller);
+    let relaxed = take_live(graph, table, work_queue, horizon, &mut batch.live, caller)?;
+    work_queue.count(relaxed);
     if arcs == 0 || end_bits(graph, &batch.live) == 0 {
         return Ok(());
     }
-    relax_live(graph, table, hands, batch, caller)
+    relax_live(graph, table, work_queue, batch, caller)
 }
 
 // Puts the reached vertices of the queue into a worker's buckets.
 fn put_queue<L: Lawful, const P: u32>(
     graph: &Graph,
     table: &OfferTable<L, P>,
-    hands: &mut Hands,
+    work_queue: &mut WorkQueue,
     caller: &mut Caller,
     queue: &[u32],
 ) -> Result<(), AllocError>
@@ -206,7 +206,7 @@ fn put_queue<L: Lawful, const P: u32>(
             continue;
         }
         if let Some(dist) = read_dist(table, vertex, caller) {
-            hands.bins().put(Entry { vertex, dist })?;
+            work_queue.bins().put(Entry { vertex, dist })?;
         }
     }
     Ok(())
@@ -214,33 +214,33 @@ fn put_queue<L: Lawful, const P: u32>(
 
 // Gets a worker's first entries: the first worker takes those of the queue, and every other waits for a shared chunk. Returns
 // false if all work is done.
-fn begin<C: Crew, L: Lawful, const P: u32>(
+fn begin<C: ThreadsAndSleep, L: Lawful, const P: u32>(
     rt: &C,
     graph: &Graph,
     table: &OfferTable<L, P>,
     common: &Common,
-    hands: &mut Hands,
+    work_queue: &mut WorkQueue,
     caller: &mut Caller,
 ) -> Result<bool, AllocError>
     requires ready { IsReady P (lawful P (L.allows table.now.law)) table.now.vertices graph.now }
     requires caller { caller.old.table ≡ table.now.id }
     ensures { IsLater (lawful P (L.allows table.now.law)) caller.old caller.new }
 {
-    if !hands.is_first() {
-        return Ok(hands.begin(rt, common));
+    if !work_queue.is_first() {
+        return Ok(work_queue.begin(rt, common));
     }
-    put_queue(graph, table, hands, caller, common.queue.as_slice())?;
+    put_queue(graph, table, work_queue, caller, common.queue.as_slice())?;
     Ok(true)
 }
 
 // Works until nothing is left to do, and returns the marks of the relaxed vertices. A worker that has worked for too long fails
 // as if memory had been refused, and drops its entries.
-fn work<C: Crew, L: Lawful, const P: u32>(
+fn work<C: ThreadsAndSleep, L: Lawful, const P: u32>(
     rt: &C,
     graph: &Graph,
     table: &OfferTable<L, P>,
     common: &Common,
-    hands: &mut Hands,
+    work_queue: &mut WorkQueue,
     caller: &mut Caller,
 ) -> Result<Vec<Mark>, AllocError>
     requires ready { IsReady P (lawful P (L.allows table.now.law)) table.now.vertices graph.now }
@@ -249,17 +249,17 @@ fn work<C: Crew, L: Lawful, const P: u32>(
     ensures marks { IfOk result
         (λ marks. AllTrue (max_dist P) graph.now caller.new.story marks.items) }
 {
-    if !begin(rt, graph, table, common, hands, caller)? {
+    if !begin(rt, graph, table, common, work_queue, caller)? {
         return Ok(Vec::new(common.alloc));
     }
     let mut horizon = Horizon::new(common.limit);
     let mut batch = Batch::new(graph, common)?;
     for _ in 0..STRETCHES {
-        if !hands.find(rt, common)? {
+        if !work_queue.find(rt, common)? {
             return Ok(batch.into_marks());
         }
         horizon.look(graph, table, common.targets.as_slice(), caller);
-        run_some(graph, table, hands, horizon, &mut batch, caller)?;
+        run_some(graph, table, work_queue, horizon, &mut batch, caller)?;
     }
     Err(AllocError)
 }
@@ -274,7 +274,7 @@ fn list_of(alloc: Global, marks: Vec<Mark>) -> Vec<Vec<Mark>>
 }
 
 // Runs one worker, which starts with the queue or waits for entries from others.
-fn run_worker<C: Crew, L: Lawful, const P: u32>(
+fn run_worker<C: ThreadsAndSleep, L: Lawful, const P: u32>(
     rt: &C,
     graph: &Graph,
     table: &OfferTable<L, P>,
@@ -292,7 +292,7 @@ fn run_worker<C: Crew, L: Lawful, const P: u32>(
         own,
         mut caller,
     } = start;
-    let Ok(mut hands) = Hands::new(common, worker, own, meter) else {
+    let Ok(mut work_queue) = WorkQueue::new(common, worker, own, meter) else {
         // the first worker would have taken the queue
         let lost = worker == 0;
         if lost {
@@ -300,7 +300,7 @@ fn run_worker<C: Crew, L: Lawful, const P: u32>(
         }
         return Relaxed::without_marks(common.alloc, caller, lost);
     };
-    match work(rt, graph, table, common, &mut hands, &mut caller) {
+    match work(rt, graph, table, common, &mut work_queue, &mut caller) {
         Ok(marks) => Relaxed {
             caller,
             lost: false,
@@ -372,7 +372,7 @@ fn part<L: Lawful, const P: u32>(
 }
 
 // Runs the first worker of a squad, on this thread.
-fn run_first<C: Crew, L: Lawful, const P: u32>(
+fn run_first<C: ThreadsAndSleep, L: Lawful, const P: u32>(
     rt: &C,
     graph: &Graph,
     table: &OfferTable<L, P>,
@@ -404,7 +404,7 @@ fn run_first<C: Crew, L: Lawful, const P: u32>(
 // Runs a worker for each of the deques, one on this thread and the others on threads that it starts. Each half starts its own
 // threads, so that the last of many workers starts early. If memory is refused, there are fewer workers.
 #[cycle(workers)]
-fn run_workers<C: Crew, L: Lawful + Send + Sync, const P: u32>(
+fn run_workers<C: ThreadsAndSleep, L: Lawful + Send + Sync, const P: u32>(
     rt: &C,
     graph: &Graph,
     table: &OfferTable<L, P>,
@@ -448,7 +448,7 @@ fn run_workers<C: Crew, L: Lawful + Send + Sync, const P: u32>(
 /// once all targets are reached.
 ///
 /// The workers are this thread and threads that it starts and joins. Each has its own caller.
-pub fn relax_all<C: Crew, L: Lawful + Send + Sync, const P: u32>(
+pub fn relax_all<C: ThreadsAndSleep, L: Lawful + Send + Sync, const P: u32>(
     rt: &C,
     alloc: Global,
     graph: &Graph,

@@ -14,7 +14,7 @@ use Rattle.sp_text.specs.declared.formats.Field.{Field}
 use Rattle.sp_text.specs.Lines.{lines, fields, is_number, value}
 use Rattle.sp_text.specs.Formats.{LineForm, Format}
 use Rattle.sp_text.specs.First.{or_at, or_else, or_kind, size_fault, line_fault, first_after, first_fault, fault_at_end}
-use Rattle.sp_text.specs.Text.{with_number, numbers, is_word, behind_words, of_form, is_comment, Item, Reading, Comment, Bad, IsProblem, IsItem, item_or, item_reading, problem_or, reading_of, reading, problem_of, items_of, items_first, top, first_out, out_or, letter_or, item_out, count, too_many, reading_fault, fault, missing_of, missing, judge, Spells}
+use Rattle.sp_text.specs.Text.{with_number, numbers, is_word, behind_words, of_form, is_comment, ItemLine, Reading, Comment, Bad, IsProblem, IsItem, item_or, item_reading, problem_or, reading_of, reading, problem_of, items_of, items_first, top, first_out, out_or, letter_or, item_out, count, too_many, reading_fault, fault, missing_of, missing, judge, Spells}
 use Rattle.sp_text.specs.Accepted.{IsAllowed, IsAccepted}
 use Rattle.sp_text.proofs.KeptLine.{problem_last, problem_push, items_push, count_push}
 
@@ -46,22 +46,22 @@ unfolding of_form
 form_full form line ns h = words_full form.words form.fields line ns h
 
 -- The item has the form at its place among these, of which the first has place k.
-abbrev HasForm : ℕ → List LineForm → Item → Type 0
+abbrev HasForm : ℕ → List LineForm → ItemLine → Type 0
 HasForm k forms item = (j : ℕ) × (item.kind ≡ k + j) × (slice_get forms j ≡ Some item.form) × (length item.numbers ≡ length item.form.fields)
 
-form_later : (k : ℕ) (form : LineForm) (forms : List LineForm) (item : Item) → HasForm (k + 1) forms item → HasForm k (form ∷ forms) item
+form_later : (k : ℕ) (form : LineForm) (forms : List LineForm) (item : ItemLine) → HasForm (k + 1) forms item → HasForm k (form ∷ forms) item
 form_later k form forms item (j, kind, is, full) = (suc j, omega arith, is, full)
 
-form_here : (k : ℕ) (form : LineForm) (forms : List LineForm) (ns : List ℕ) (item : Item) → length ns ≡ length form.fields → IsItem (record { kind = k; form = form; numbers = ns }) ≡ IsItem item → HasForm k (form ∷ forms) item
+form_here : (k : ℕ) (form : LineForm) (forms : List LineForm) (ns : List ℕ) (item : ItemLine) → length ns ≡ length form.fields → IsItem (record { kind = k; form = form; numbers = ns }) ≡ IsItem item → HasForm k (form ∷ forms) item
 form_here k form forms ns item full is =
     let e : item ≡ record { kind = k; form = form; numbers = ns } = cc in
-    (0, ap (λ (i : Item). i.kind) e ∙ sym (add-zero k), rw e refl, rw e full)
+    (0, ap (λ (i : ItemLine). i.kind) e ∙ sym (add-zero k), rw e refl, rw e full)
 
-by_form : (found : Option (List ℕ)) (k : ℕ) (form : LineForm) (forms : List LineForm) (line : List (List ℕ)) (later : Reading) (item : Item) → of_form form line ≡ found → item_or k form found later ≡ IsItem item → (later ≡ IsItem item → HasForm (k + 1) forms item) → HasForm k (form ∷ forms) item
+by_form : (found : Option (List ℕ)) (k : ℕ) (form : LineForm) (forms : List LineForm) (line : List (List ℕ)) (later : Reading) (item : ItemLine) → of_form form line ≡ found → item_or k form found later ≡ IsItem item → (later ≡ IsItem item → HasForm (k + 1) forms item) → HasForm k (form ∷ forms) item
 by_form None k form forms line later item found is more = form_later k form forms item (more is)
 by_form (Some ns) k form forms line later item found is more = form_here k form forms ns item (form_full form line ns found) is
 
-item_formed : (k : ℕ) (forms : List LineForm) (line : List (List ℕ)) (item : Item) → item_reading k forms line ≡ IsItem item → HasForm k forms item
+item_formed : (k : ℕ) (forms : List LineForm) (line : List (List ℕ)) (item : ItemLine) → item_reading k forms line ≡ IsItem item → HasForm k forms item
 item_formed k [] line item h = cc
 item_formed k (form ∷ forms) line item h = by_form (of_form form line) k form forms line (item_reading (k + 1) forms line) item refl h (item_formed (k + 1) forms line item)
 
@@ -79,12 +79,12 @@ IsFormed format Bad = Unit {0}
 IsFormed format (IsProblem ns) = length ns ≡ length format.problem.fields
 IsFormed format (IsItem item) = (slice_get format.items item.kind ≡ Some item.form) × (length item.numbers ≡ length item.form.fields)
 
-same_place : (format : Format) (item : Item) → HasForm 0 format.items item → IsFormed format (IsItem item)
+same_place : (format : Format) (item : ItemLine) → HasForm 0 format.items item → IsFormed format (IsItem item)
 same_place format item (j, kind, is, full) =
     let place : item.kind ≡ j = omega arith in
     (rw place is, full)
 
-item_or_comment : (comment : Bool) (found : Option (List ℕ)) (other : Reading) (item : Item) → cond comment Comment (problem_or found other) ≡ IsItem item → other ≡ IsItem item
+item_or_comment : (comment : Bool) (found : Option (List ℕ)) (other : Reading) (item : ItemLine) → cond comment Comment (problem_or found other) ≡ IsItem item → other ≡ IsItem item
 item_or_comment true found other item h = cc
 item_or_comment false None other item h = h
 item_or_comment false (Some ns) other item h = cc
@@ -111,13 +111,13 @@ formed format line = formed_as format (fields line) (reading_of format (fields l
 
 -- 2. What holds behind lines without a fault.
 
-record Good (format : Format) (ranges : Ranges) (ps : List ℕ) (items : List Item) : Type 0 where
+record Good (format : Format) (ranges : Ranges) (ps : List ℕ) (items : List ItemLine) : Type 0 where
   full : length ps ≡ length format.problem.fields
   in_range : first_out ranges [] format.problem.fields ps ≡ None
   allowed : All (IsAllowed format ranges ps) items
   bounded : (group : ℕ) (limit : Top) → AllByRecursion (λ (form : LineForm). form.group ≡ group → form.limit ≡ limit) format.items → count group items ≤ top ranges ps limit
 
-abbrev Stands : Format → Ranges → Option (List ℕ) → List Item → Type 0
+abbrev Stands : Format → Ranges → Option (List ℕ) → List ItemLine → Type 0
 Stands format ranges None items = items ≡ []
 Stands format ranges (Some ps) items = Good format ranges ps items
 
@@ -147,7 +147,7 @@ good_start format ranges ps full none = record {
   bounded = λ group limit all. omega arith;
 }
 
-bounded_push : (format : Format) (ranges : Ranges) (ps : List ℕ) (items : List Item) (item : Item) (group : ℕ) (limit : Top) → slice_get format.items item.kind ≡ Some item.form → count item.form.group items < top ranges ps item.form.limit
+bounded_push : (format : Format) (ranges : Ranges) (ps : List ℕ) (items : List ItemLine) (item : ItemLine) (group : ℕ) (limit : Top) → slice_get format.items item.kind ≡ Some item.form → count item.form.group items < top ranges ps item.form.limit
     → AllByRecursion (λ (form : LineForm). form.group ≡ group → form.limit ≡ limit) format.items → count group items ≤ top ranges ps limit → count group (items ++ item ∷ []) ≤ top ranges ps limit
 bounded_push format ranges ps items item group limit is more all bound = ⊎_elim
     (λ (same : item.form.group ≡ group).
@@ -162,7 +162,7 @@ bounded_push format ranges ps items item group limit is more all bound = ⊎_eli
     omega arith)
     (cases_eq item.form.group group)
 
-good_push : (format : Format) (ranges : Ranges) (ps : List ℕ) (items : List Item) (item : Item) → Good format ranges ps items → IsFormed format (IsItem item) → out_or (item_out ranges ps items item) (too_many ranges ps items item) ≡ None → Good format ranges ps (items ++ item ∷ [])
+good_push : (format : Format) (ranges : Ranges) (ps : List ℕ) (items : List ItemLine) (item : ItemLine) → Good format ranges ps items → IsFormed format (IsItem item) → out_or (item_out ranges ps items item) (too_many ranges ps items item) ≡ None → Good format ranges ps (items ++ item ∷ [])
 good_push format ranges ps items item h formed none =
     let parts = out_none (item_out ranges ps items item) (too_many ranges ps items item) none in
     let fits = letter_none _ (first_out ranges ps item.form.fields item.numbers) parts.0 in
@@ -174,7 +174,7 @@ good_push format ranges ps items item h formed none =
       bounded = λ group limit all. bounded_push format ranges ps items item group limit formed.0 more all (h.bounded group limit all);
     }
 
-step : (format : Format) (ranges : Ranges) (problem : Option (List ℕ)) (items : List Item) (r : Reading) → Stands format ranges problem items → IsFormed format r → reading_fault format ranges problem items r ≡ None → Stands format ranges (problem_last problem r) (items ++ items_first r [])
+step : (format : Format) (ranges : Ranges) (problem : Option (List ℕ)) (items : List ItemLine) (r : Reading) → Stands format ranges problem items → IsFormed format r → reading_fault format ranges problem items r ≡ None → Stands format ranges (problem_last problem r) (items ++ items_first r [])
 unfolding problem_last
 step format ranges None items Comment h formed none = append-nil items ∙ h
 step format ranges (Some ps) items Comment h formed none = subst (Good format ranges ps) (sym (append-nil items)) h
@@ -223,10 +223,10 @@ few_none : (b : Bool) → cond b (Some TooFew) None ≡ None → b ≡ false
 few_none true h = cc
 few_none false h = refl
 
-all_there : (format : Format) (ranges : Ranges) (ps : List ℕ) (items : List Item) → missing_of format ranges (Some ps) items ≡ None → top ranges ps format.needed ≤ count 0 items
+all_there : (format : Format) (ranges : Ranges) (ps : List ℕ) (items : List ItemLine) → missing_of format ranges (Some ps) items ≡ None → top ranges ps format.needed ≤ count 0 items
 all_there format ranges ps items h = ltb-false (count 0 items) (top ranges ps format.needed) (few_none (ltb (count 0 items) (top ranges ps format.needed)) h)
 
-accepted_at : (format : Format) (ranges : Ranges) (problem : Option (List ℕ)) (all items : List Item) (ps : List ℕ) → problem ≡ Some ps → all ≡ items → Stands format ranges problem all → missing_of format ranges problem all ≡ None → IsAccepted format ranges ps items
+accepted_at : (format : Format) (ranges : Ranges) (problem : Option (List ℕ)) (all items : List ItemLine) (ps : List ℕ) → problem ≡ Some ps → all ≡ items → Stands format ranges problem all → missing_of format ranges problem all ≡ None → IsAccepted format ranges ps items
 accepted_at format ranges None all items ps p is h none = cc
 accepted_at format ranges (Some qs) all items ps p is h none =
     let same : qs ≡ ps = cc in
@@ -239,7 +239,7 @@ accepted_at format ranges (Some qs) all items ps p is h none =
       enough = all_there format ranges ps items (rw is at (rw same at none));
     }
 
-pub accepted : (format : Format) (ranges : Ranges) (text ps : List ℕ) (items : List Item) → Spells format ranges text ps items → IsAccepted format ranges ps items
+pub accepted : (format : Format) (ranges : Ranges) (text ps : List ℕ) (items : List ItemLine) → Spells format ranges text ps items → IsAccepted format ranges ps items
 unfolding fault_at_end missing
 accepted format ranges text ps items h =
     let parts = else_none (first_fault (judge format ranges) (lines text)) (or_at (length (lines text) + 1) (missing format ranges (lines text)) None) h.faultless in

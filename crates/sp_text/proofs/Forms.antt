@@ -4,8 +4,8 @@ use Rattle.sp_text.specs.declared.formats.Ranges.{Ranges}
 use Rattle.sp_text.specs.declared.formats.Field.{Field}
 use Rattle.sp_text.specs.declared.numbers.Numeral.{Numeral}
 use Rattle.sp_text.specs.declared.numbers.Numeral.TheVariants as numerals
-use Rattle.sp_text.specs.declared.matching.Spelled.{Spelled}
-use Rattle.sp_text.specs.declared.matching.Spelled.TheVariants.{No, Out, Within}
+use Rattle.sp_text.specs.declared.matching.FieldCheck.{FieldCheck}
+use Rattle.sp_text.specs.declared.matching.FieldCheck.TheVariants.{No, Out, Within}
 use Rattle.sp_text.specs.Lines.{is_number, value}
 use Rattle.sp_text.specs.Numeral.{numeral}
 use Rattle.std.specs.Prelude.{Err}
@@ -29,7 +29,7 @@ out_here ranges ps d ds bytes rest whole greatest n parts top_is is out (ns, fou
     (refl, value bytes ∷ ns, rw (parts, e.0, found) refl, rw e.1 refl)
 
 -- What the first field of a line shows, and what the others do.
-pub next_first : (ranges : Ranges) (ps : List ℕ) (fields : List Field) (d : Field) (whole rest : List (List ℕ)) (n : ℕ) (old mid new : List ℕ) (result : Spelled)
+pub next_first : (ranges : Ranges) (ps : List ℕ) (fields : List Field) (d : Field) (whole rest : List (List ℕ)) (n : ℕ) (old mid new : List ℕ) (result : FieldCheck)
     → 1 ≤ length fields → numbers (get_or fields 0 d ∷ drop 1 fields) whole ≡ with_number n (numbers (drop 1 fields) rest) → is_within (get_or fields 0 d) ranges ps n ≡ true → mid ≡ old ++ n ∷ []
     → Spells ranges ps (drop 1 fields) (numbers (drop 1 fields) rest) mid new result
     → Spells ranges ps fields (numbers fields whole) old new result

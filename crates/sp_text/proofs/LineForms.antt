@@ -13,7 +13,7 @@ use Rattle.sp_text.specs.declared.matching.Numbers.{Numbers}
 use Rattle.sp_text.specs.declared.matching.Numbers.TheVariants.{Within}
 use Rattle.sp_text.specs.Lines.{without_cr, fields_from, fields}
 use Rattle.sp_text.specs.Formats.{form_of, format_of, IsSmallForm}
-use Rattle.sp_text.specs.Text.{is_comment, behind_words, of_form, Item, IsItem, item_reading, reading_of, reading}
+use Rattle.sp_text.specs.Text.{is_comment, behind_words, of_form, ItemLine, IsItem, item_reading, reading_of, reading}
 use Rattle.sp_text.specs.Meaning.{IsFirstLine}
 use Rattle.sp_text.specs.Matching.{Are, IsLetter, AreSpaced, AreInFront}
 use Rattle.sp_text.proofs.FrontNumbers.{no_lf, no_cr}
@@ -30,7 +30,7 @@ pub found_item : (format : FileFormat) (line text : List ℕ) (place : ℕ) (d :
     → place < length format.items.now → of_form (form_of (get_or format.items.now place d)) (fields_from [] text) ≡ Some ns
     → IsSmallForm (get_or format.items.now place d)
     → Are ranges ps (form_of (get_or format.items.now place d)).fields ns numbers
-    → (item : Item) × (reading (format_of format) line ≡ IsItem item) × (item.kind ≡ place) × (slice_get (format_of format).items place ≡ Some item.form) × (item.form ≡ form_of (get_or format.items.now place d)) × IsSmallForm (get_or format.items.now place d) × Are ranges ps item.form.fields item.numbers numbers
+    → (item : ItemLine) × (reading (format_of format) line ≡ IsItem item) × (item.kind ≡ place) × (slice_get (format_of format).items place ≡ Some item.form) × (item.form ≡ form_of (get_or format.items.now place d)) × IsSmallForm (get_or format.items.now place d) × Are ranges ps item.form.fields item.numbers numbers
 unfolding reading reading_of fields
 found_item format line text place d ranges ps ns numbers cr remark problem so_far within is plain are =
     let here = item_here format.items.now place d (fields_from [] text) ns within is so_far in (
@@ -64,7 +64,7 @@ pub found_usual : (format : FileFormat) (line text rest : List ℕ) (place : ℕ
     → text ≡ without_cr line → false ≡ is_comment (fields_from [] text) → ((ds : List Field) → behind_words (fields_from [] format.problem.words.now) ds (fields_from [] text) ≡ None)
     → item_reading 0 (map form_of format.items.now) (fields_from [] text) ≡ item_reading place (map form_of (drop place format.items.now)) (fields_from [] text)
     → place < length format.items.now → IsLetter (get_or format.items.now place d).words.now text rest → AreSpaced ranges ps (get_or format.items.now place d).fields.now rest ns
-    → (item : Item) × (reading (format_of format) line ≡ IsItem item) × (item.kind ≡ place) × (slice_get (format_of format).items place ≡ Some item.form) × (item.form ≡ form_of (get_or format.items.now place d)) × IsSmallForm (get_or format.items.now place d) × Are ranges ps item.form.fields item.numbers (Within ns)
+    → (item : ItemLine) × (reading (format_of format) line ≡ IsItem item) × (item.kind ≡ place) × (slice_get (format_of format).items place ≡ Some item.form) × (item.form ≡ form_of (get_or format.items.now place d)) × IsSmallForm (get_or format.items.now place d) × Are ranges ps item.form.fields item.numbers (Within ns)
 found_usual format line text rest place d ranges ps ns small cr remark problem so_far within letter spaced =
     found_item format line text place d ranges ps ns (Within ns) cr remark (no_form format.problem (fields_from [] text) problem) so_far within
     (letter_form (get_or format.items.now place d) text rest ranges ps ns letter spaced) small (spaced.within, refl)
@@ -80,7 +80,7 @@ pub front_usual : (format : FileFormat) (text line more rest : List ℕ) (end : 
     → IsLetter (get_or format.items.now 0 d).words.now line rest → rest ≡ drop 1 line
     → false ≡ is_comment (fields_from [] line) → ((ds : List Field) → behind_words (fields_from [] format.problem.words.now) ds (fields_from [] line) ≡ None)
     → (l : List ℕ) × IsFirstLine text l more × (length l ≤ 1024)
-    × ((item : Item) × (reading (format_of format) l ≡ IsItem item) × (item.kind ≡ 0) × (slice_get (format_of format).items 0 ≡ Some item.form) × (item.form ≡ form_of (get_or format.items.now 0 d)) × IsSmallForm (get_or format.items.now 0 d) × Are ranges ps item.form.fields item.numbers (Within ns))
+    × ((item : ItemLine) × (reading (format_of format) l ≡ IsItem item) × (item.kind ≡ 0) × (slice_get (format_of format).items 0 ≡ Some item.form) × (item.form ≡ form_of (get_or format.items.now 0 d)) × IsSmallForm (get_or format.items.now 0 d) × Are ranges ps item.form.fields item.numbers (Within ns))
 front_usual format [] line more rest end d ranges ps ns small items some front lf first line_is more_is letter rest_is remark problem = absurd (omega arith)
 front_usual format (b ∷ text) line more rest end d ranges ps ns small items some front lf first line_is more_is letter rest_is remark problem =
     let next : end + 1 ≡ suc end = omega arith in

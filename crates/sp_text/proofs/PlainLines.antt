@@ -11,7 +11,7 @@ use Rattle.sp_text.specs.declared.formats.Form.{Form}
 use Rattle.sp_text.specs.declared.formats.FileFormat.{FileFormat}
 use Rattle.sp_text.specs.Formats.{LineForm, Format, form_of, format_of}
 use Rattle.sp_text.specs.First.{line_fault, first_after}
-use Rattle.sp_text.specs.Text.{Item, Reading, Comment, Bad, IsProblem, IsItem, problem_first, items_first, problem_of, items_of, reading, top, item_out, too_many, count, fault, judge}
+use Rattle.sp_text.specs.Text.{ItemLine, Reading, Comment, Bad, IsProblem, IsItem, problem_first, items_first, problem_of, items_of, reading, top, item_out, too_many, count, fault, judge}
 use Rattle.sp_text.specs.Collecting.{IsAfter}
 use Rattle.sp_text.specs.Plain.{IsPlainItem, IsPlainReading, IsPlain, AreRead}
 use Rattle.sp_text.proofs.Behind.{short_line}
@@ -40,17 +40,17 @@ items_both format (line ∷ before) more =
 -- 2. The items of plain lines.
 
 -- As many items of group 0, and none of another one.
-abbrev AreCounted : List Item → Type 0
+abbrev AreCounted : List ItemLine → Type 0
 AreCounted items = (count 0 items ≡ length items) × ((group : ℕ) → group ≢ 0 → count group items ≡ 0)
 
-one_more : (format : Format) (ranges : Ranges) (ps : List ℕ) (r : Reading) (items : List Item) → IsPlainReading format ranges ps r → AreCounted items → AreCounted (items_first r items)
+one_more : (format : Format) (ranges : Ranges) (ps : List ℕ) (r : Reading) (items : List ItemLine) → IsPlainReading format ranges ps r → AreCounted items → AreCounted (items_first r items)
 one_more format ranges ps Comment items plain counted = counted
 one_more format ranges ps Bad items plain counted = absurd plain
 one_more format ranges ps (IsProblem ns) items plain counted = absurd plain
 one_more format ranges ps (IsItem item) items plain counted = (
-  sum_by-cons (λ (x : Item). cond (eqb x.form.group 0) 1 0) item items ∙ rw (plain.group, counted.0) (omega arith),
+  sum_by-cons (λ (x : ItemLine). cond (eqb x.form.group 0) 1 0) item items ∙ rw (plain.group, counted.0) (omega arith),
   λ group other.
-      sum_by-cons (λ (x : Item). cond (eqb x.form.group group) 1 0) item items ∙ rw (plain.group, ne_eqb 0 group (λ e. other (sym e)), counted.1 group other) (omega arith),
+      sum_by-cons (λ (x : ItemLine). cond (eqb x.form.group group) 1 0) item items ∙ rw (plain.group, ne_eqb 0 group (λ e. other (sym e)), counted.1 group other) (omega arith),
 )
 
 pub plain_counted : (format : Format) (ranges : Ranges) (ps : List ℕ) (all : List (List ℕ)) → AllByRecursion (IsPlain format ranges ps) all → AreCounted (items_of format all)
@@ -60,7 +60,7 @@ plain_counted format ranges ps (line ∷ more) plain = one_more format ranges ps
 
 -- 3. Plain lines have no fault, where there are not too many.
 
-item_clean : (format : Format) (ranges : Ranges) (ps : List ℕ) (form : LineForm) (items : List Item) (item : Item) → slice_get format.items 0 ≡ Some form → IsPlainItem format ranges ps item → count 0 items < top ranges ps form.limit
+item_clean : (format : Format) (ranges : Ranges) (ps : List ℕ) (form : LineForm) (items : List ItemLine) (item : ItemLine) → slice_get format.items 0 ≡ Some form → IsPlainItem format ranges ps item → count 0 items < top ranges ps form.limit
     → (item_out ranges ps items item ≡ None) × (too_many ranges ps items item ≡ None)
 item_clean format ranges ps form items item first plain fewer =
     let same : item.form ≡ form = cc (first, plain.form) in
@@ -78,11 +78,11 @@ line_clean format ranges ps form before line (IsItem item) first problem is plai
     rw (is, problem, clean.0, clean.1) refl
 
 -- the items with those of one line more
-more_counted : (format : Format) (ranges : Ranges) (ps : List ℕ) (items : List Item) (r : Reading) → IsPlainReading format ranges ps r → count 0 (items ++ items_first r []) ≡ count 0 items + length (items_first r [])
+more_counted : (format : Format) (ranges : Ranges) (ps : List ℕ) (items : List ItemLine) (r : Reading) → IsPlainReading format ranges ps r → count 0 (items ++ items_first r []) ≡ count 0 items + length (items_first r [])
 more_counted format ranges ps items r plain =
-    sum_by-append (λ (x : Item). cond (eqb x.form.group 0) 1 0) items (items_first r []) ∙ ap (λ (n : ℕ). count 0 items + n) (one_more format ranges ps r [] plain (refl, λ group other. refl)).0
+    sum_by-append (λ (x : ItemLine). cond (eqb x.form.group 0) 1 0) items (items_first r []) ∙ ap (λ (n : ℕ). count 0 items + n) (one_more format ranges ps r [] plain (refl, λ group other. refl)).0
 
-first_length : (r : Reading) (items : List Item) → length (items_first r items) ≡ length (items_first r []) + length items
+first_length : (r : Reading) (items : List ItemLine) → length (items_first r items) ≡ length (items_first r []) + length items
 first_length Comment items = omega arith
 first_length Bad items = omega arith
 first_length (IsProblem ns) items = omega arith
@@ -102,16 +102,16 @@ plain_clean format ranges ps form before (line ∷ more) first problem plain few
 
 -- 4. The state behind them.
 
-both_counted : (before more : List Item) (counts : List ℕ) (sum group : ℕ) → length counts ≡ 3 → group < 3 → ((g : ℕ) → g < 3 → slice_index counts g ≡ count g before) → AreCounted more → sum ≡ slice_index counts 0 + length more
+both_counted : (before more : List ItemLine) (counts : List ℕ) (sum group : ℕ) → length counts ≡ 3 → group < 3 → ((g : ℕ) → g < 3 → slice_index counts g ≡ count g before) → AreCounted more → sum ≡ slice_index counts 0 + length more
     → slice_index (set counts 0 sum) group ≡ count group (before ++ more)
 both_counted before more counts sum group long below are counted is = ⊎_elim
     (λ (here : group ≡ 0).
-    rw (here, get_or-set_same counts 0 sum 0 (omega arith)) (is ∙ (rw (are 0 (omega arith), sum_by-append (λ (x : Item). cond (eqb x.form.group 0) 1 0) before more, counted.0) refl)))
+    rw (here, get_or-set_same counts 0 sum 0 (omega arith)) (is ∙ (rw (are 0 (omega arith), sum_by-append (λ (x : ItemLine). cond (eqb x.form.group 0) 1 0) before more, counted.0) refl)))
     (λ (other : group ≢ 0).
-    get_or-set_other counts 0 group sum 0 other ∙ (are group below ∙ (sym (add-zero (count group before)) ∙ rw (sum_by-append (λ (x : Item). cond (eqb x.form.group group) 1 0) before more, counted.1 group other) refl)))
+    get_or-set_other counts 0 group sum 0 other ∙ (are group below ∙ (sym (add-zero (count group before)) ∙ rw (sum_by-append (λ (x : ItemLine). cond (eqb x.form.group group) 1 0) before more, counted.1 group other) refl)))
     (cases_eq group 0)
 
-pub plain_added : {K : Type 0} (format : Format) (ranges : Ranges) (Kept : K → List Item → Type 0) (ps : List ℕ) (before all : List (List ℕ)) (old keep new : K) (problem : Option (List ℕ)) (counts : List ℕ) (sum number : ℕ)
+pub plain_added : {K : Type 0} (format : Format) (ranges : Ranges) (Kept : K → List ItemLine → Type 0) (ps : List ℕ) (before all : List (List ℕ)) (old keep new : K) (problem : Option (List ℕ)) (counts : List ℕ) (sum number : ℕ)
     → problem_of format before ≡ Some ps → IsAfter format Kept before old problem counts → AreRead format ranges Kept ps all keep number → Kept new (items_of format before ++ items_of format all)
     → sum ≡ slice_index counts 0 + length (items_of format all) → IsAfter format Kept (before ++ all) new problem (set counts 0 sum)
 plain_added format ranges Kept ps before all old keep new problem counts sum number is h read kept sum_is = record {
@@ -126,7 +126,7 @@ plain_added format ranges Kept ps before all old keep new problem counts sum num
 first_form : (format : Format) (file : FileFormat) (d : Form) → format_of file ≡ format → 0 < length file.items.now → slice_get format.items 0 ≡ Some (form_of (get_or file.items.now 0 d))
 first_form format file d is some = rw (← is) (slice_get-map form_of file.items.now 0 ∙ rw (slice_get-get_or file.items.now 0 d some) refl)
 
-pub items_added : {K : Type 0} (format : Format) (file : FileFormat) (d : Form) (ranges other : Ranges) (Kept : K → List Item → Type 0) (ps values : List ℕ) (before all : List (List ℕ)) (old keep new : K) (problem : Option (List ℕ)) (counts : List ℕ) (sum most number : ℕ)
+pub items_added : {K : Type 0} (format : Format) (file : FileFormat) (d : Form) (ranges other : Ranges) (Kept : K → List ItemLine → Type 0) (ps values : List ℕ) (before all : List (List ℕ)) (old keep new : K) (problem : Option (List ℕ)) (counts : List ℕ) (sum most number : ℕ)
     → format_of file ≡ format → other ≡ ranges → 0 < length file.items.now → problem ≡ Some values → most ≡ top other values (get_or file.items.now 0 d).limit → sum ≤ most → sum ≡ slice_index counts 0 + length (items_of format all)
     → problem_of format before ≡ Some ps → IsAfter format Kept before old problem counts → AreRead format ranges Kept ps all keep number → Kept new (items_of format before ++ items_of format all)
     → (first_after (judge format ranges) before all ≡ None) × IsAfter format Kept (before ++ all) new problem (set counts 0 sum)
@@ -144,7 +144,7 @@ all_push : {X : Type 0} (P : X → Type 0) (xs : List X) (x : X) → AllByRecurs
 all_push P [] x all here = (here, tt)
 all_push P (y ∷ xs) x all here = (all.0, all_push P xs x all.1 here)
 
-pub read_push : {K : Type 0} (format : Format) (ranges : Ranges) (Kept : K → List Item → Type 0) (ps : List ℕ) (all : List (List ℕ)) (line : List ℕ) (old new : K) (number : ℕ)
+pub read_push : {K : Type 0} (format : Format) (ranges : Ranges) (Kept : K → List ItemLine → Type 0) (ps : List ℕ) (all : List (List ℕ)) (line : List ℕ) (old new : K) (number : ℕ)
     → AreRead format ranges Kept ps all old number → IsPlain format ranges ps line → (Kept old (items_of format all) → Kept new (items_of format (all ++ line ∷ []))) → AreRead format ranges Kept ps (all ++ line ∷ []) new (number + 1)
 read_push format ranges Kept ps all line old new number read plain keeps = record {
   plain = all_push (IsPlain format ranges ps) all line read.plain plain;

@@ -8,7 +8,7 @@ use Rattle.sp_text.specs.Lines.{ended, rest}
 use Rattle.sp_text.specs.Meaning.{IsFirstLine}
 use Rattle.sp_text.specs.Formats.{Format}
 use Rattle.sp_text.specs.First.{Judge, first_after, first_fault}
-use Rattle.sp_text.specs.Text.{Item, Comment, IsItem, items_of, reading}
+use Rattle.sp_text.specs.Text.{ItemLine, Comment, IsItem, items_of, reading}
 use Rattle.sp_text.specs.Feeding.{IsBehind}
 use Rattle.sp_text.specs.Plain.{IsPlainItem, IsPlainReading, IsPlain}
 use Rattle.sp_text.proofs.LineCuts.{cut-append, first_after-append, clean_parts}
@@ -17,26 +17,26 @@ use Rattle.sp_text.proofs.KeptLine.{items_push}
 
 -- 1. A line is kept.
 
-pub item_kept : {K : Type 0} (format : Format) (ranges : Ranges) (Kept : K → List Item → Type 0) (ps line : List ℕ) (old new : K) (item : Item) → reading format line ≡ IsItem item → IsPlainItem format ranges ps item
-    → ((before : List Item) → Kept old before → Kept new (before ++ item ∷ [])) → IsPlainReading format ranges ps (reading format line) × ((all : List (List ℕ)) → Kept old (items_of format all) → Kept new (items_of format (all ++ line ∷ [])))
+pub item_kept : {K : Type 0} (format : Format) (ranges : Ranges) (Kept : K → List ItemLine → Type 0) (ps line : List ℕ) (old new : K) (item : ItemLine) → reading format line ≡ IsItem item → IsPlainItem format ranges ps item
+    → ((before : List ItemLine) → Kept old before → Kept new (before ++ item ∷ [])) → IsPlainReading format ranges ps (reading format line) × ((all : List (List ℕ)) → Kept old (items_of format all) → Kept new (items_of format (all ++ line ∷ [])))
 item_kept format ranges Kept ps line old new item is plain keeps = (rw is plain, λ all kept. rw (items_push format all line, is) (keeps (items_of format all) kept))
 
-pub comment_kept : {K : Type 0} (format : Format) (ranges : Ranges) (Kept : K → List Item → Type 0) (ps line : List ℕ) (keep : K) → reading format line ≡ Comment
+pub comment_kept : {K : Type 0} (format : Format) (ranges : Ranges) (Kept : K → List ItemLine → Type 0) (ps line : List ℕ) (keep : K) → reading format line ≡ Comment
     → IsPlainReading format ranges ps (reading format line) × ((all : List (List ℕ)) → Kept keep (items_of format all) → Kept keep (items_of format (all ++ line ∷ [])))
 comment_kept format ranges Kept ps line keep is = (rw is tt, λ all kept. rw (items_push format all line, is, append-nil (items_of format all)) kept)
 
 -- The first line of a text is found to be plain, and is kept.
 
-pub front_comment : {K : Type 0} (format : Format) (ranges : Ranges) (Kept : K → List Item → Type 0) (text more : List ℕ) (problem : Option (List ℕ)) (keep : K)
+pub front_comment : {K : Type 0} (format : Format) (ranges : Ranges) (Kept : K → List ItemLine → Type 0) (text more : List ℕ) (problem : Option (List ℕ)) (keep : K)
     → (line : List ℕ) × IsFirstLine text line more × (length line ≤ 1024) × ((other : List ℕ) × (problem ≡ Some other) × (reading format line ≡ Comment)) → (ps : List ℕ) → problem ≡ Some ps
     → (line : List ℕ) × IsFirstLine text line more × IsPlain format ranges ps line × ((all : List (List ℕ)) → Kept keep (items_of format all) → Kept keep (items_of format (all ++ line ∷ [])))
 front_comment format ranges Kept text more problem keep (line, first, short, (other, has, is)) ps same =
     let kept = comment_kept format ranges Kept ps line keep is in
     (line, first, record { short = short; fits = kept.0 }, kept.1)
 
-pub front_plain : {K : Type 0} (format : Format) (ranges : Ranges) (Kept : K → List Item → Type 0) (text more values : List ℕ) (problem : Option (List ℕ)) (old new : K)
-    → (line : List ℕ) × IsFirstLine text line more × (length line ≤ 1024) × ((other : List ℕ) × (problem ≡ Some other) × ((item : Item) × (reading format line ≡ IsItem item) × (item.kind ≡ 0) × (item.numbers ≡ values) × IsPlainItem format ranges other item))
-    → ((before : List Item) (item : Item) → Kept old before → item.kind ≡ 0 → item.numbers ≡ values → Kept new (before ++ item ∷ [])) → (ps : List ℕ) → problem ≡ Some ps
+pub front_plain : {K : Type 0} (format : Format) (ranges : Ranges) (Kept : K → List ItemLine → Type 0) (text more values : List ℕ) (problem : Option (List ℕ)) (old new : K)
+    → (line : List ℕ) × IsFirstLine text line more × (length line ≤ 1024) × ((other : List ℕ) × (problem ≡ Some other) × ((item : ItemLine) × (reading format line ≡ IsItem item) × (item.kind ≡ 0) × (item.numbers ≡ values) × IsPlainItem format ranges other item))
+    → ((before : List ItemLine) (item : ItemLine) → Kept old before → item.kind ≡ 0 → item.numbers ≡ values → Kept new (before ++ item ∷ [])) → (ps : List ℕ) → problem ≡ Some ps
     → (line : List ℕ) × IsFirstLine text line more × IsPlain format ranges ps line × ((all : List (List ℕ)) → Kept old (items_of format all) → Kept new (items_of format (all ++ line ∷ [])))
 front_plain format ranges Kept text more values problem old new (line, first, short, (other, has, (item, is, kind, numbers, plain))) keeps ps same =
     let here : other ≡ ps = cc (has, same) in

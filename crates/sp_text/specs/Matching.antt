@@ -8,13 +8,13 @@ use Rattle.sp_text.specs.declared.formats.Field.{Field}
 use Rattle.sp_text.specs.declared.formats.Form.{Form}
 use Rattle.sp_text.specs.declared.matching.Numbers.{Numbers}
 use Rattle.sp_text.specs.declared.matching.Numbers.TheVariants as lists
-use Rattle.sp_text.specs.declared.matching.Spelled.{Spelled}
-use Rattle.sp_text.specs.declared.matching.Spelled.TheVariants.{No, Out, Within}
+use Rattle.sp_text.specs.declared.matching.FieldCheck.{FieldCheck}
+use Rattle.sp_text.specs.declared.matching.FieldCheck.TheVariants.{No, Out, Within}
 use Rattle.sp_text.specs.declared.reading.LineContent.{LineContent}
 use Rattle.sp_text.specs.declared.reading.LineContent.TheVariants as contents
 use Rattle.sp_text.specs.Formats.{Format, form_of, IsSmallForm}
 use Rattle.sp_text.specs.Meaning.{IsFirstLine}
-use Rattle.sp_text.specs.Text.{Reading, Comment, Bad, IsProblem, IsItem, Item, with_number, numbers, behind_words, top, first_out, first_letter, reading}
+use Rattle.sp_text.specs.Text.{Reading, Comment, Bad, IsProblem, IsItem, ItemLine, with_number, numbers, behind_words, top, first_out, first_letter, reading}
 
 -- The number with this letter is out of its range, and these numbers come before it.
 abbrev pub IsFront : List Field → List ℕ → ℕ → List ℕ → Type 0
@@ -22,14 +22,14 @@ IsFront ds ns letter [] = first_letter ds ≡ Some letter
 IsFront ds ns letter (n ∷ part) = slice_index ns 0 ≡ n
 
 -- `found` holds the numbers that the fields spell, if they spell any.
-abbrev pub Spells : Ranges → List ℕ → List Field → Option (List ℕ) → List ℕ → List ℕ → Spelled → Type 0
+abbrev pub Spells : Ranges → List ℕ → List Field → Option (List ℕ) → List ℕ → List ℕ → FieldCheck → Type 0
 Spells ranges ps ds found old new No = found ≡ None
 Spells ranges ps ds found old new (Out letter) = (ns part : List ℕ) × (found ≡ Some ns) × (first_out ranges ps ds ns ≡ Some letter) × (new ≡ old ++ part) × IsFront ds ns letter part
 Spells ranges ps ds found old new Within = (ns : List ℕ) × (found ≡ Some ns) × (first_out ranges ps ds ns ≡ None) × (new ≡ old ++ ns)
 
 -- The first number is this one, it is in its range, and the rest of the line spells the others; or the line doesn't
 -- spell such numbers; or it does, and the first is out of its range.
-abbrev pub NumberTaken : Ranges → List ℕ → Field → List Field → Option (List ℕ) → Result (ℕ × Bor (List ℕ)) Spelled → Type 0
+abbrev pub NumberTaken : Ranges → List ℕ → Field → List Field → Option (List ℕ) → Result (ℕ × Bor (List ℕ)) FieldCheck → Type 0
 NumberTaken ranges ps d ds found (Ok (n, rest)) = (found ≡ with_number n (numbers ds (fields_from [] rest.now))) × ((nat_le d.least n && nat_le n (top ranges ps d.most)) ≡ true)
 NumberTaken ranges ps d ds found (Err No) = found ≡ None
 NumberTaken ranges ps d ds found (Err (Out letter)) = (letter ≡ d.letter) × (ns : List ℕ) × (found ≡ Some ns) × (first_out ranges ps (d ∷ ds) ns ≡ Some letter)
@@ -82,7 +82,7 @@ abbrev pub IsContent : Format → Ranges → List ℕ → Reading → LineConten
 IsContent format ranges ps reading contents.Comment = reading ≡ Comment
 IsContent format ranges ps reading contents.Bad = reading ≡ Bad
 IsContent format ranges ps reading (contents.Problem numbers) = (ns : List ℕ) × (reading ≡ IsProblem ns) × Are ranges [] format.problem.fields ns numbers
-IsContent format ranges ps reading (contents.Item place form numbers) = (item : Item) × (reading ≡ IsItem item) × (item.kind ≡ place) × (slice_get format.items place ≡ Some item.form) × (item.form ≡ form_of form.now) × IsSmallForm form.now × Are ranges ps item.form.fields item.numbers numbers
+IsContent format ranges ps reading (contents.Item place form numbers) = (item : ItemLine) × (reading ≡ IsItem item) × (item.kind ≡ place) × (slice_get format.items place ≡ Some item.form) × (item.form ≡ form_of form.now) × IsSmallForm form.now × Are ranges ps item.form.fields item.numbers numbers
 
 -- This is an item of the form at this index with these numbers, which are in their ranges.
 abbrev pub IsUsualItem : Format → Ranges → List ℕ → Reading → ℕ × Bor Form × List ℕ → Type 0

@@ -12,12 +12,12 @@ use Rattle.sp_text.specs.declared.plain.PlainLine.TheVariants as plain_lines
 use Rattle.sp_text.specs.Lines.{ended, rest}
 use Rattle.sp_text.specs.Meaning.{IsFirstLine}
 use Rattle.sp_text.specs.Formats.{Format}
-use Rattle.sp_text.specs.Text.{Item, Reading, Comment, Bad, IsProblem, IsItem, first_out, problem_of, items_of, reading, judge}
+use Rattle.sp_text.specs.Text.{ItemLine, Reading, Comment, Bad, IsProblem, IsItem, first_out, problem_of, items_of, reading, judge}
 use Rattle.sp_text.specs.First.{first_after}
 use Rattle.sp_text.specs.Collectors.{HasTakenLines}
 
 -- An item of the first form, which isn't fresh and is of group 0. Its numbers are in their ranges.
-pub record IsPlainItem (format : Format) (ranges : Ranges) (ps : List ℕ) (item : Item) : Type 0 where
+pub record IsPlainItem (format : Format) (ranges : Ranges) (ps : List ℕ) (item : ItemLine) : Type 0 where
   pub form : slice_get format.items 0 ≡ Some item.form
   pub stale : item.form.fresh ≡ false
   pub group : item.form.group ≡ 0
@@ -37,13 +37,13 @@ pub record IsPlain (format : Format) (ranges : Ranges) (ps line : List ℕ) : Ty
   pub fits : IsPlainReading format ranges ps (reading format line)
 
 -- The lines are plain, their number is `number`, and their items were kept.
-pub record AreRead {K : Type 0} (format : Format) (ranges : Ranges) (Kept : K → List Item → Type 0) (ps : List ℕ) (all : List (List ℕ)) (keep : K) (number : ℕ) : Type 0 where
+pub record AreRead {K : Type 0} (format : Format) (ranges : Ranges) (Kept : K → List ItemLine → Type 0) (ps : List ℕ) (all : List (List ℕ)) (keep : K) (number : ℕ) : Type 0 where
   pub plain : AllByRecursion (IsPlain format ranges ps) all
   pub kept : Kept keep (items_of format all)
   pub is_number : number ≡ length all
 
 -- The bytes are such lines, each with its LF.
-pub record IsBlock {K : Type 0} (format : Format) (ranges : Ranges) (Kept : K → List Item → Type 0) (ps block : List ℕ) (keep : K) (number : ℕ) : Type 0 where
+pub record IsBlock {K : Type 0} (format : Format) (ranges : Ranges) (Kept : K → List ItemLine → Type 0) (ps block : List ℕ) (keep : K) (number : ℕ) : Type 0 where
   pub whole : rest block ≡ []
   pub read : AreRead format ranges Kept ps (ended block) keep number
 
@@ -54,7 +54,7 @@ HasProblem reader ps = reader.taker.problem ≡ Some ps
 -- This is what a plain line holds.
 abbrev pub Spells : Format → Ranges → List ℕ → Reading → PlainLine → Type 0
 Spells format ranges ps reading plain_lines.Comment = reading ≡ Comment
-Spells format ranges ps reading (plain_lines.Item values) = (item : Item) × (reading ≡ IsItem item) × (item.kind ≡ 0) × (item.numbers ≡ values) × IsPlainItem format ranges ps item
+Spells format ranges ps reading (plain_lines.Item values) = (item : ItemLine) × (reading ≡ IsItem item) × (item.kind ≡ 0) × (item.numbers ≡ values) × IsPlainItem format ranges ps item
 
 -- A collector finds that the line is plain, and what it holds.
 abbrev pub FindsPlain : {K V : Type 0} {keeper : Keeper K V} → Collector K V keeper → (line : List ℕ) → PlainLine → Type 0
@@ -66,7 +66,7 @@ FindsPlainFront {keeper} collector text (plain, more) = (line : List ℕ) × IsF
 
 -- The first line of the text is plain, and was kept after all others; these bytes come after its LF. Or nothing was
 -- kept.
-abbrev pub PlainTaken : {K E : Type 0} → Format → Ranges → (K → List Item → Type 0) → (ps text : List ℕ) → (old new : K) → Result (Option (Bor (List ℕ))) E → Type 0
+abbrev pub PlainTaken : {K E : Type 0} → Format → Ranges → (K → List ItemLine → Type 0) → (ps text : List ℕ) → (old new : K) → Result (Option (Bor (List ℕ))) E → Type 0
 PlainTaken format ranges Kept ps text old new (Ok (Some more)) = (line : List ℕ) × IsFirstLine text line more.now × IsPlain format ranges ps line
     × ((all : List (List ℕ)) → Kept old (items_of format all) → Kept new (items_of format (all ++ line ∷ [])))
 PlainTaken format ranges Kept ps text old new (Ok None) = new ≡ old

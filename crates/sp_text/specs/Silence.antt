@@ -6,7 +6,7 @@ use Rattle.sp_text.specs.declared.faults.Kind.TheVariants.{TooMany, TooFew, Read
 use Rattle.sp_text.specs.declared.formats.Ranges.{Ranges}
 use Rattle.sp_text.specs.First.{IsSilent}
 use Rattle.sp_text.specs.Formats.{Format}
-use Rattle.sp_text.specs.Text.{Item, Reading, Comment, Bad, IsProblem, IsItem, first_out, out_or, top, count, item_out, too_many, problem_fault, placed_fault, reading_fault, reading, problem_of, items_of, fault, missing_of, missing, judge}
+use Rattle.sp_text.specs.Text.{ItemLine, Reading, Comment, Bad, IsProblem, IsItem, first_out, out_or, top, count, item_out, too_many, problem_fault, placed_fault, reading_fault, reading, problem_of, items_of, fault, missing_of, missing, judge}
 
 out_silent : (out : Option ℕ) (later : Option Kind) → later ≢ Some Read → out_or out later ≢ Some Read
 out_silent None later silent h = silent h
@@ -27,12 +27,12 @@ problem_silent : (format : Format) (ranges : Ranges) (problem : Option (List ℕ
 problem_silent format ranges None ns h = out_silent (first_out ranges [] format.problem.fields ns) None none_silent h
 problem_silent format ranges (Some ps) ns h = cc
 
-placed_silent : (ranges : Ranges) (problem : Option (List ℕ)) (before : List Item) (item : Item) → placed_fault ranges problem before item ≢ Some Read
+placed_silent : (ranges : Ranges) (problem : Option (List ℕ)) (before : List ItemLine) (item : ItemLine) → placed_fault ranges problem before item ≢ Some Read
 placed_silent ranges None before item h = cc
 placed_silent ranges (Some ps) before item h =
     out_silent (item_out ranges ps before item) (too_many ranges ps before item) (many_silent (nat_le (top ranges ps item.form.limit) (count item.form.group before))) h
 
-reading_silent : (format : Format) (ranges : Ranges) (problem : Option (List ℕ)) (before : List Item) (r : Reading) → reading_fault format ranges problem before r ≢ Some Read
+reading_silent : (format : Format) (ranges : Ranges) (problem : Option (List ℕ)) (before : List ItemLine) (r : Reading) → reading_fault format ranges problem before r ≢ Some Read
 reading_silent format ranges problem before Comment h = cc
 reading_silent format ranges problem before Bad h = cc
 reading_silent format ranges problem before (IsProblem ns) h = problem_silent format ranges problem ns h
@@ -42,7 +42,7 @@ fault_silent : (format : Format) (ranges : Ranges) (before : List (List ℕ)) (l
 unfolding fault
 fault_silent format ranges before line h = reading_silent format ranges (problem_of format before) (items_of format before) (reading format line) h
 
-missing_of_silent : (format : Format) (ranges : Ranges) (problem : Option (List ℕ)) (items : List Item) → missing_of format ranges problem items ≢ Some Read
+missing_of_silent : (format : Format) (ranges : Ranges) (problem : Option (List ℕ)) (items : List ItemLine) → missing_of format ranges problem items ≢ Some Read
 missing_of_silent format ranges None items h = cc
 missing_of_silent format ranges (Some ps) items h = few_silent (nat_lt (count 0 items) (top ranges ps format.needed)) h
 

@@ -48,7 +48,7 @@ unfoldable pub of_form : LineForm → List (List ℕ) → Option (List ℕ)
 of_form form line = behind_words form.words form.fields line
 
 -- An item line has a form, given by its index among the forms, and numbers.
-pub record Item : Type 0 where
+pub record ItemLine : Type 0 where
   pub kind : ℕ
   pub form : LineForm
   pub numbers : List ℕ
@@ -58,7 +58,7 @@ pub data Reading : Type 0 where
   Comment : Reading
   Bad : Reading
   IsProblem : List ℕ → Reading
-  IsItem : Item → Reading
+  IsItem : ItemLine → Reading
 
 -- This is an item with these numbers, if there are any, and otherwise the other reading.
 abbrev pub item_or : ℕ → LineForm → Option (List ℕ) → Reading → Reading
@@ -98,14 +98,14 @@ problem_of format [] = None
 problem_of format (line ∷ more) = problem_first (reading format line) (problem_of format more)
 
 -- This puts this line, if it is an item, before the later items.
-abbrev pub items_first : Reading → List Item → List Item
+abbrev pub items_first : Reading → List ItemLine → List ItemLine
 items_first Comment later = later
 items_first Bad later = later
 items_first (IsProblem ns) later = later
 items_first (IsItem item) later = item ∷ later
 
 -- These are the items of the lines, in their order.
-unfoldable pub items_of : Format → List (List ℕ) → List Item
+unfoldable pub items_of : Format → List (List ℕ) → List ItemLine
 items_of format [] = []
 items_of format (line ∷ more) = items_first (reading format line) (items_of format more)
 
@@ -135,11 +135,11 @@ first_letter [] = None
 first_letter (d ∷ ds) = Some d.letter
 
 -- An earlier item of the form at this index has this first number. In a fresh form such a number is out of its range.
-abbrev pub is_named : ℕ → ℕ → List Item → Bool
+abbrev pub is_named : ℕ → ℕ → List ItemLine → Bool
 is_named place first before = list_any (λ item. (item.kind == place) && (slice_index item.numbers 0 == first)) before
 
 -- In a fresh form, this is the letter of the first field if an earlier item of the form has the same first number.
-abbrev pub named_at : LineForm → ℕ → ℕ → List Item → Option ℕ
+abbrev pub named_at : LineForm → ℕ → ℕ → List ItemLine → Option ℕ
 named_at form place first before = if form.fresh && is_named place first before then first_letter form.fields else None
 
 -- This is the first letter, if there is one, and otherwise the later one.
@@ -148,19 +148,19 @@ letter_or None later = later
 letter_or (Some letter) later = Some letter
 
 -- This is the letter of the leftmost number that was named before or is out of its range.
-abbrev pub item_out : Ranges → List ℕ → List Item → Item → Option ℕ
+abbrev pub item_out : Ranges → List ℕ → List ItemLine → ItemLine → Option ℕ
 item_out ranges ps before item = letter_or (named_at item.form item.kind (slice_index item.numbers 0) before) (first_out ranges ps item.form.fields item.numbers)
 
 -- This is the number of items of a group.
-abbrev pub count : ℕ → List Item → ℕ
+abbrev pub count : ℕ → List ItemLine → ℕ
 count group items = count_by (λ item. item.form.group == group) items
 
 -- There are already as many items of the group as its limit allows.
-abbrev pub too_many : Ranges → List ℕ → List Item → Item → Option Kind
+abbrev pub too_many : Ranges → List ℕ → List ItemLine → ItemLine → Option Kind
 too_many ranges ps before item = if nat_le (top ranges ps item.form.limit) (count item.form.group before) then Some TooMany else None
 
 -- This is the fault of an item after a problem line and the items before it.
-abbrev pub item_fault : Ranges → List ℕ → List Item → Item → Option Kind
+abbrev pub item_fault : Ranges → List ℕ → List ItemLine → ItemLine → Option Kind
 item_fault ranges ps before item = out_or (item_out ranges ps before item) (too_many ranges ps before item)
 
 -- This is the fault of a problem line: a number out of its range, or an earlier problem line.
@@ -169,12 +169,12 @@ problem_fault format ranges None ns = out_or (first_out ranges [] format.problem
 problem_fault format ranges (Some ps) ns = Some SecondProblem
 
 -- This is the fault of an item: that no problem line comes before it, or the one that the lines before it show.
-abbrev pub placed_fault : Ranges → Option (List ℕ) → List Item → Item → Option Kind
+abbrev pub placed_fault : Ranges → Option (List ℕ) → List ItemLine → ItemLine → Option Kind
 placed_fault ranges None before item = Some NoProblem
 placed_fault ranges (Some ps) before item = item_fault ranges ps before item
 
 -- This is the fault of a line with this reading.
-abbrev pub reading_fault : Format → Ranges → Option (List ℕ) → List Item → Reading → Option Kind
+abbrev pub reading_fault : Format → Ranges → Option (List ℕ) → List ItemLine → Reading → Option Kind
 reading_fault format ranges problem before Comment = None
 reading_fault format ranges problem before Bad = Some BadLine
 reading_fault format ranges problem before (IsProblem ns) = problem_fault format ranges problem ns
@@ -187,7 +187,7 @@ fault format ranges before line = reading_fault format ranges (problem_of format
 -- 4. What is missing when the lines end.
 
 -- A file lacks a problem line, or needs more items of group 0.
-abbrev pub missing_of : Format → Ranges → Option (List ℕ) → List Item → Option Kind
+abbrev pub missing_of : Format → Ranges → Option (List ℕ) → List ItemLine → Option Kind
 missing_of format ranges None items = Some NoProblem
 missing_of format ranges (Some ps) items = if nat_lt (count 0 items) (top ranges ps format.needed) then Some TooFew else None
 
@@ -219,7 +219,7 @@ judge format ranges = record {
 }
 
 -- 6. What a text spells.
-pub record Spells (format : Format) (ranges : Ranges) (text : List ℕ) (problem : List ℕ) (items : List Item) : Type 0 where
+pub record Spells (format : Format) (ranges : Ranges) (text : List ℕ) (problem : List ℕ) (items : List ItemLine) : Type 0 where
   pub faultless : fault_at_end (judge format ranges) text ≡ None
   pub problem_line : problem_of format (lines text) ≡ Some problem
   pub item_lines : items_of format (lines text) ≡ items

@@ -2,7 +2,7 @@
 ghost use Rattle.std.specs.Prelude.{◌≡◌, ℕ, ◌<◌, List, [], ◌∷◌, ◌++◌, length, OnOk, IfSome, MatchOption, Some, None, true};
 ghost use Rattle.sp_text.specs.declared.formats.Ranges.{Ranges};
 ghost use Rattle.sp_text.specs.Formats.{Format, format_of, IsSmall, IsSmallForm, IsFreshPlace, form_of};
-ghost use Rattle.sp_text.specs.Text.{Item, judge, first_out, first_letter, is_named, named_at};
+ghost use Rattle.sp_text.specs.Text.{ItemLine, judge, first_out, first_letter, is_named, named_at};
 ghost use Rattle.sp_text.specs.Keeping.{CanKeep};
 ghost use Rattle.sp_text.specs.Collecting.{SpelledBy};
 ghost use Rattle.sp_text.specs.Silence.{judge_silent};
@@ -27,10 +27,10 @@ pub trait Keep {
     ghost ranges: { Ranges };
 
     /// These items were kept.
-    ghost Kept: { Self → List Item → Type 0 };
+    ghost Kept: { Self → List ItemLine → Type 0 };
 
     /// The numbers of the problem line and the items spell this value.
-    ghost Spelled: { List ℕ → List Item → Self.Value → Type 0 };
+    ghost Spelled: { List ℕ → List ItemLine → Self.Value → Type 0 };
 
     /// Returns the line forms of the file.
     fn format(&self) -> FileFormat
@@ -44,19 +44,19 @@ pub trait Keep {
     /// Keeps an item whose numbers are in range. If there is no memory, the contract promises nothing about the kept items.
     fn keep(&mut self, place: usize, values: &Values) -> Result<(), AllocError>
         requires { CanKeep format ranges place values.now }
-        ensures { (before : List Item) (item : Item) → Kept self.old before → item.kind ≡ place
+        ensures { (before : List ItemLine) (item : ItemLine) → Kept self.old before → item.kind ≡ place
             → item.numbers ≡ values.now → OnOk result (Kept self.new (before ++ item ∷ [])) };
 
     /// Returns whether an item of this fresh form with this first number was kept.
     fn is_named(&self, place: usize, first: u64) -> bool
         requires { IsFreshPlace format place }
-        ensures { (before : List Item) → Kept self.now before
+        ensures { (before : List ItemLine) → Kept self.now before
             → result ≡ is_named place first before };
 
     /// Returns the value of the items after a problem line whose numbers are in range, and starts over.
     fn give(&mut self, problem: &Values) -> Self::Value
         requires { first_out ranges [] format.problem.fields problem.now ≡ None }
-        ensures { (all : List Item) → Kept self.old all
+        ensures { (all : List ItemLine) → Kept self.old all
             → (Spelled problem.now all result) × Kept self.new [] };
 }
 
@@ -82,7 +82,7 @@ fn first_letter(fields: &[Field]) -> Option<u8>
 // Returns the letter of the first field if the form is fresh and an earlier item has the same first number.
 fn named_letter<K: Keep>(keep: &K, place: usize, form: &Form, first: u64) -> Option<u8>
     requires { form.now.fresh ≡ true → IsFreshPlace K.format place }
-    ensures { (before : List Item) → K.Kept keep.now before
+    ensures { (before : List ItemLine) → K.Kept keep.now before
         → result ≡ named_at (form_of form.now) place first before }
 {
     if form.fresh && keep.is_named(place, first) {

@@ -3,7 +3,7 @@ ghost use Rattle.std.specs.Prelude.{◌≡◌, ℕ, List, ◌++◌, Some};
 ghost use Rattle.sp_text.specs.declared.faults.DimacsError.{DimacsError};
 ghost use Rattle.sp_text.specs.declared.formats.Ranges.{Ranges};
 ghost use Rattle.sp_text.specs.Formats.{Format};
-ghost use Rattle.sp_text.specs.Text.{Item, Spells};
+ghost use Rattle.sp_text.specs.Text.{ItemLine, Spells};
 ghost use Rattle.sp_text.specs.Accepted.{IsAccepted};
 ghost use Rattle.sp_text.specs.First.{Judge, first_fault, fault_so_far, fault_at_end};
 ghost use Rattle.sp_text.specs.Lines.{ended, rest};
@@ -30,6 +30,6 @@ pub fn text_is_its_lines()
 
 /// States that in a text without a fault all numbers are in their ranges, and the number of items is within its limits.
 pub fn accepted_text_is_in_range()
-    ensures { (format : Format) (ranges : Ranges) (text problem : List ℕ) (items : List Item)
+    ensures { (format : Format) (ranges : Ranges) (text problem : List ℕ) (items : List ItemLine)
         → Spells format ranges text problem items → IsAccepted format ranges problem items }
 {}

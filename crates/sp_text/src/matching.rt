@@ -25,7 +25,7 @@ pub enum Numbers {
 
 // What the fields of a line are, as numbers.
 #[derive(Clone, Copy)]
-enum Spelled {
+enum FieldCheck {
     No,
     Out(u8),
     Within,
@@ -94,21 +94,21 @@ fn take_number<'a>(
     ranges: &Ranges,
     problem: &Values,
     text: &'a [u8],
-) -> Result<(u64, &'a [u8]), Spelled>
+) -> Result<(u64, &'a [u8]), FieldCheck>
     ensures { NumberTaken ranges.now problem.now field.now more.now
         (numbers (field.now ∷ more.now) (fields_from [] text.now)) result }
 {
     let most = greatest(field.most, ranges, problem);
     let Some((numeral, rest)) = next_number(text, field.least, most) else {
-        return Err(Spelled::No);
+        return Err(FieldCheck::No);
     };
     match numeral {
-        Numeral::Bad => Err(Spelled::No),
+        Numeral::Bad => Err(FieldCheck::No),
         Numeral::Out => {
             if are_numbers(more, rest) {
-                return Err(Spelled::Out(field.letter));
+                return Err(FieldCheck::Out(field.letter));
             }
-            Err(Spelled::No)
+            Err(FieldCheck::No)
         }
         Numeral::Value(n) => Ok((n, rest)),
     }
@@ -116,14 +116,14 @@ fn take_number<'a>(
 
 // Returns what a line is if no more fields are expected and this text remains.
 #[inline(always)]
-fn end_numbers(text: &[u8]) -> Spelled
+fn end_numbers(text: &[u8]) -> FieldCheck
     ensures { (ranges : Ranges) (ps values : List ℕ)
         → Spells ranges ps [] (numbers [] (fields_from [] text.now)) values values result }
 {
     if next_field(text).is_none() {
-        Spelled::Within
+        FieldCheck::Within
     } else {
-        Spelled::No
+        FieldCheck::No
     }
 }
 
@@ -135,7 +135,7 @@ fn take_numbers(
     problem: &Values,
     text: &[u8],
     values: &mut Values,
-) -> Spelled
+) -> FieldCheck
     requires { length values.old + length fields.now ≤ 4 }
     ensures { Spells ranges.now problem.now fields.now
         (numbers fields.now (fields_from [] text.now)) values.old values.new result }
@@ -290,8 +290,8 @@ pub(crate) fn match_form(
     let rest = after_fields(form.words, text)?;
     let mut values = Values::new();
     match take_numbers(form.fields, ranges, problem, rest, &mut values) {
-        Spelled::No => None,
-        Spelled::Out(letter) => Some(Numbers::Out(letter, values)),
-        Spelled::Within => Some(Numbers::Within(values)),
+        FieldCheck::No => None,
+        FieldCheck::Out(letter) => Some(Numbers::Out(letter, values)),
+        FieldCheck::Within => Some(Numbers::Within(values)),
     }
 }

@@ -2,7 +2,7 @@
 ghost use Rattle.std.specs.Prelude.{◌≡◌, ◌<◌, ◌≤◌, ◌^◌, ℕ, List, [], ◌++◌, Some, true, false, length, IfOk, OnOk, OnErr, IfSome, MatchBool};
 ghost use Rattle.sp_text.specs.Formats.{format_of};
 ghost use Rattle.sp_text.specs.Lines.{ended};
-ghost use Rattle.sp_text.specs.Text.{Item, Comment, judge, reading, problem_of};
+ghost use Rattle.sp_text.specs.Text.{ItemLine, Comment, judge, reading, problem_of};
 ghost use Rattle.sp_text.specs.Feeding.{IsBehind};
 
 use crate::collecting::{Collector, Keep};
@@ -23,13 +23,13 @@ pub trait KeepParts: Keep + Drop + Sized {
 
     /// Returns the number of items kept.
     fn count(&self) -> u64
-        ensures { (all : List Item) → Self.Kept self.now all → result ≡ length all };
+        ensures { (all : List ItemLine) → Self.Kept self.now all → result ≡ length all };
 
     /// Appends the items of another keeper. If there is no memory, it keeps what it had.
     fn append(&mut self, other: &Self) -> Result<(), AllocError>
-        ensures appended { (before more : List Item) → Self.Kept self.old before
+        ensures appended { (before more : List ItemLine) → Self.Kept self.old before
             → Self.Kept other.now more → OnOk result (Self.Kept self.new (before ++ more)) }
-        ensures refused { (before : List Item) → Self.Kept self.old before
+        ensures refused { (before : List ItemLine) → Self.Kept self.old before
             → OnErr result (Self.Kept self.new before) };
 }
 

@@ -11,7 +11,7 @@ use Rattle.sp_paths.specs.Paths.{Graph, IsGraph, IsArc, IsVertex, IsNear, IsTree
 use Rattle.sp_paths.specs.Bags.{AreSame}
 use Rattle.sp_paths.proofs.SameArcs.{same_arcs_same_answers}
 use Rattle.sp_answer.specs.Table.{TreeTable, table_of}
-use Rattle.sp_forest.specs.ForestTable.{ForestTable, IsForestTable}
+use Rattle.sp_answer.specs.ForestTable.{ForestTable, IsForestTable}
 use Rattle.sp_files.specs.declared.either.TreeOrForest.{TreeOrForest}
 use Rattle.sp_files.specs.declared.either.TreeOrForest.TheVariants.{Tree, Forest}
 use Rattle.sp_files.specs.TreeOrForest.{IsEither}

@@ -1,7 +1,7 @@
 -- The answer of `offers` to the text of its file.
 use Rattle.std.specs.Prelude.{ℕ, Bool, List, Option, Some, None, Result, Err, IfOk}
 use Rattle.sp_text.specs.declared.faults.DimacsError.{DimacsError}
-use Rattle.sp_text.specs.Text.{Item as Line, Spells}
+use Rattle.sp_text.specs.Text.{ItemLine as Line, Spells}
 use Rattle.sp_text.specs.Formats.{ranges_of}
 use Rattle.sp_word.specs.Word.{Word}
 use Rattle.sp_machine.specs.Programme.{Programme}

@@ -2,7 +2,7 @@
 use Rattle.std.specs.Prelude.{◌≡◌, ℕ, Bool, List, Option, Result}
 use Rattle.std.specs.List.Sorted.{IsPermutation}
 use Rattle.sp_text.specs.declared.faults.DimacsError.{DimacsError}
-use Rattle.sp_text.specs.Text.{Item as Line, Spells}
+use Rattle.sp_text.specs.Text.{ItemLine as Line, Spells}
 use Rattle.sp_text.specs.Formats.{ranges_of}
 use Rattle.sp_paths.specs.Paths.{Graph}
 use Rattle.sp_network.specs.declared.directions.Direction.{Direction}

@@ -4,7 +4,7 @@ use Rattle.sp_word.specs.Word.{max_dist}
 use Rattle.sp_paths.specs.Paths.{Graph}
 use Rattle.sp_answer.specs.Table.{TreeTable}
 use Rattle.sp_cert.specs.Certificate.{IsCertified, IsCertifiedWithin}
-use Rattle.sp_forest.specs.ForestTable.{ForestTable}
+use Rattle.sp_answer.specs.ForestTable.{ForestTable}
 use Rattle.sp_files.specs.declared.either.TreeOrForest.{TreeOrForest}
 use Rattle.sp_files.specs.declared.either.TreeOrForest.TheVariants.{Tree, Forest}
 use Rattle.sp_cert.specs.declared.checking.CheckError.{CheckError}

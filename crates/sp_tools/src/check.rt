@@ -14,13 +14,14 @@ use crate::graphs::{all_workers, read_graph};
 use clap::{ArgMatches, Error};
 use sp_cert::{CheckError, Rule, check, check_forest, check_within};
 use sp_command::{
-    BuiltCommand, Command, Fault, FileKind, GRAPH_FILE, Inputs, Run, Status, after_help, file, flag,
+    BuiltCommand, Command, Fault, FileKind, Inputs, Runnable, Status, after_help, file, flag,
+    graph_file,
 };
-use sp_device::{Printer, Write, WriteFault, finish, print_number, print_text};
+use sp_device::{Peeked, Printer, Write, WriteFault, finish, print_number, print_text};
 use sp_files::{ForestFile, Tree, TreeOrForest, read_tree_or_forest};
 use sp_graph::Graph;
 use sp_jobs::{BucketWidth, Nobody, Settings};
-use sp_network::{Direction, Peeked};
+use sp_network::Direction;
 use sp_options::{Within, add_directions, read_direction};
 use std::alloc::{AllocError, Global};
 use std::sync::Wait;
@@ -130,9 +131,9 @@ A limit that does not fit (see --pred-bits) is reported before a file is opened.
         "check"
     }
 
-    fn build(alloc: Global) -> BuiltCommand<'a> {
-        let command = clap::Command::new(alloc, "check")
-            .arg(file(alloc, "GR", GRAPH_FILE))?
+    fn add_arguments(command: clap::Command<'a>, alloc: Global) -> BuiltCommand<'a> {
+        let command = command
+            .arg(graph_file(alloc))?
             .arg(file(alloc, "TREE", "The file of a tree or a forest"))?;
         add_directions(command, alloc)?
             .arg(flag(
@@ -171,7 +172,7 @@ A limit that does not fit (see --pred-bits) is reported before a file is opened.
     }
 }
 
-impl<const P: u32> Run<P> for CheckCommand<'_> {
+impl<const P: u32> Runnable<P> for CheckCommand<'_> {
     ghost answers = { CheckAnswers P };
 
     ghost paths = { check_paths };

@@ -6,10 +6,9 @@ ghost use Rattle.sp_tools.specs.Early.{IsOfGraph};
 ghost use Rattle.sp_tools.specs.Reading.{IsGraphIn, IsGraphFault};
 
 use sp_command::Fault;
-use sp_device::Read;
+use sp_device::{Peeked, Read};
 use sp_graph::Graph;
 use sp_jobs::{Listener, Settings};
-use sp_network::Peeked;
 use sp_options::fault_of;
 use sp_word::{MOST_WORKERS, Workers};
 use std::alloc::Global;

@@ -5,7 +5,9 @@ ghost use Rattle.sp_tools.specs.Early.{no_faults};
 ghost use Rattle.sp_tools.specs.Words.{IsOffers, LacksFile, offers_rules};
 
 use clap::{ArgMatches, Error};
-use sp_command::{BuiltCommand, Command, Fault, FileKind, Inputs, Run, Status, after_help, file};
+use sp_command::{
+    BuiltCommand, Command, Fault, FileKind, Inputs, Runnable, Status, after_help, file,
+};
 use sp_device::Write;
 use sp_replay::{final_words, read_offers, write_words};
 use std::alloc::Global;
@@ -87,8 +89,8 @@ An error in the file is reported with its line, as in
         "offers"
     }
 
-    fn build(alloc: Global) -> BuiltCommand<'a> {
-        clap::Command::new(alloc, "offers").arg(file(alloc, "FILE", "The offers file"))
+    fn add_arguments(command: clap::Command<'a>, alloc: Global) -> BuiltCommand<'a> {
+        command.arg(file(alloc, "FILE", "The offers file"))
     }
 
     fn read(_alloc: Global, given: &ArgMatches<'a>) -> Result<Option<Self>, Error> {
@@ -106,7 +108,7 @@ An error in the file is reported with its line, as in
     }
 }
 
-impl<const P: u32> Run<P> for OffersCommand<'_> {
+impl<const P: u32> Runnable<P> for OffersCommand<'_> {
     ghost answers = { OffersAnswers P };
 
     ghost paths = { offers_paths };

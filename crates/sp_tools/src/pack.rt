@@ -6,13 +6,14 @@ ghost use Rattle.sp_tools.specs.Words.{IsPack, LacksPack, pack_rules};
 use crate::graphs::read_graph;
 use clap::{ArgMatches, Error};
 use sp_command::{
-    BuiltCommand, Command, Fault, FileKind, GRAPH_FILE, Inputs, Run, Status, after_help, file, flag,
+    BuiltCommand, Command, Fault, FileKind, Inputs, Runnable, Status, after_help, flag, graph_file,
 };
-use sp_device::Write;
+use sp_device::{Peeked, Write};
 use sp_jobs::{BucketWidth, Settings};
-use sp_network::{Direction, Peeked};
+use sp_network::Direction;
 use sp_options::{
-    Teller, WORKERS, Watched, add_directions, read_direction, read_workers, workers_option,
+    ProgressReporter, WORKERS, Watched, add_directions, read_direction, read_workers,
+    workers_option,
 };
 use sp_packed::write_packed;
 use sp_word::Workers;
@@ -112,8 +113,8 @@ Other errors are
         "pack"
     }
 
-    fn build(alloc: Global) -> BuiltCommand<'a> {
-        let command = clap::Command::new(alloc, "pack").arg(file(alloc, "GR", GRAPH_FILE))?;
+    fn add_arguments(command: clap::Command<'a>, alloc: Global) -> BuiltCommand<'a> {
+        let command = command.arg(graph_file(alloc))?;
         let about = "Report progress on standard error";
         add_directions(command, alloc)?
             .arg(workers_option(alloc, WORKERS_LONG))?
@@ -143,7 +144,7 @@ Other errors are
     }
 }
 
-impl<const P: u32> Run<P> for PackCommand<'_> {
+impl<const P: u32> Runnable<P> for PackCommand<'_> {
     ghost answers = { PackAnswers P };
 
     ghost paths = { pack_paths };
@@ -160,15 +161,15 @@ impl<const P: u32> Run<P> for PackCommand<'_> {
         if files.is_shown() {
             return Err(Fault::ToTerminal);
         }
-        let teller = Teller::new(files, self.progress);
+        let reporter = ProgressReporter::new(files, self.progress);
         let settings = Settings {
             direction: self.direction,
             width: BucketWidth::<P>::MeanLength,
             workers: self.workers,
-            listener: &teller,
+            listener: &reporter,
         };
         let device = FileKind::Graph.open(files, self.graph)?;
-        let mut gr = Peeked::new(Watched::new(device, FileKind::Graph, &teller));
+        let mut gr = Peeked::new(Watched::new(device, FileKind::Graph, &reporter));
         let graph = read_graph::<P, R, _, _>(rt, alloc, &mut gr, &settings)?;
         write_packed(out, &graph)?;
         Ok(Status::Done)

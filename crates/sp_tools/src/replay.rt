@@ -7,7 +7,7 @@ ghost use Rattle.sp_tools.specs.Words.{IsReplay, LacksFile, replay_rules};
 
 use clap::{ArgMatches, Error};
 use sp_command::{
-    BuiltCommand, Command, Fault, FileKind, Inputs, Run, Status, after_help, file, flag,
+    BuiltCommand, Command, Fault, FileKind, Inputs, Runnable, Status, after_help, file, flag,
 };
 use sp_device::Write;
 use sp_picture::{NoPicture, Picture, picture_of, write_picture};
@@ -125,9 +125,9 @@ Other errors are
         "replay"
     }
 
-    fn build(alloc: Global) -> BuiltCommand<'a> {
+    fn add_arguments(command: clap::Command<'a>, alloc: Global) -> BuiltCommand<'a> {
         let svg = "Write an SVG picture of the run instead of the report";
-        clap::Command::new(alloc, "replay")
+        command
             .arg(file(alloc, "FILE", "The replay file"))?
             .arg(flag(alloc, "svg", svg))
     }
@@ -148,7 +148,7 @@ Other errors are
     }
 }
 
-impl<const P: u32> Run<P> for ReplayCommand<'_> {
+impl<const P: u32> Runnable<P> for ReplayCommand<'_> {
     ghost answers = { ReplayAnswers P };
 
     ghost paths = { replay_paths };

@@ -7,28 +7,28 @@ use Rattle.sp_word.specs.Reply.{reply_to}
 
 -- The state of an offer between two steps: before its load; before an exchange of the word that it holds; or at its
 -- end, with the word found last and the reply. An offer that took a step beyond its end is overrun.
-pub data Stage : Type 0 where
-  Before : Stage
-  Holding : (held : Word) → Stage
-  Over : (found : Word) (reply : Reply) → Stage
-  Overrun : Stage
+pub data OfferStage : Type 0 where
+  Before : OfferStage
+  Holding : (held : Word) → OfferStage
+  Over : (found : Word) (reply : Reply) → OfferStage
+  Overrun : OfferStage
 
 -- This is the stage of an offer of w after one step that finds the word x.
-abbrev pub offer_step : (w : Word) → Stage → (x : Word) → Stage
+abbrev pub offer_step : (w : Word) → OfferStage → (x : Word) → OfferStage
 offer_step w Before x = if is_below w x then Holding x else Over x Kept
 offer_step w (Holding h) x = if is_same x h then Over x (reply_to x w) else if is_below w x then Holding x else Over x Kept
 offer_step w (Over y r) x = Overrun
 offer_step w Overrun x = Overrun
 
 -- This is the word that the step leaves: an exchange that finds the word held stores the offer.
-abbrev pub left_by_step : (w : Word) → Stage → (x : Word) → Word
+abbrev pub left_by_step : (w : Word) → OfferStage → (x : Word) → Word
 left_by_step w Before x = x
 left_by_step w (Holding h) x = if is_same x h then w else x
 left_by_step w (Over y r) x = x
 left_by_step w Overrun x = x
 
 -- This is the stage after steps that find these words.
-abbrev pub offer_steps : (w : Word) → Stage → List Word → Stage
+abbrev pub offer_steps : (w : Word) → OfferStage → List Word → OfferStage
 offer_steps w s [] = s
 offer_steps w s (x ∷ xs) = offer_steps w (offer_step w s x) xs
 

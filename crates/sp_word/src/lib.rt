@@ -5,18 +5,18 @@
 //! distance above `P` predecessor bits, so that words are in the order of their bits read as numbers.
 #![tactic(auto)]
 
-mod crew;
 mod delta;
 mod meter;
 mod reply;
 mod team;
+mod threads_and_sleep;
 mod word;
 mod workers;
 
-pub use crew::{Alone, Crew};
 pub use delta::Delta;
 pub use meter::Meter;
 pub use reply::{Reply, decide};
 pub use team::Team;
+pub use threads_and_sleep::{Alone, ThreadsAndSleep};
 pub use word::{Word, bits_are_exact, bits_are_ordered};
 pub use workers::{MOST_WORKERS, Workers};

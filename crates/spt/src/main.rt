@@ -12,7 +12,7 @@ use clap::Error;
 use sp_cli::AnyCommand;
 use sp_command::{Commands, RunIn};
 use sp_device::{OfWrite, Write};
-use sp_disk::{Asked, Disk, Notes, Screen};
+use sp_disk::{Disk, FileNotes, LastRequest, Screen};
 use sp_order::run_line;
 use std::fmt::Display;
 use std::process::ExitCode;
@@ -118,7 +118,7 @@ where
 }
 
 fn main(rt: HostRuntime) -> ExitCode {
-    let notes = Notes::new();
+    let notes = FileNotes::new();
     let mut disk = Disk {
         rt: &rt,
         stdin: rt.stdin(),
@@ -126,7 +126,7 @@ fn main(rt: HostRuntime) -> ExitCode {
         stderr: rt.stderr(),
         process: rt.process(),
         notes: &notes,
-        asked: Asked::Nothing,
+        asked: LastRequest::Nothing,
         has_output: false,
     };
     let mut out = disk.standard_output(rt.stdout());

@@ -6,15 +6,15 @@ use Rattle.std.proofs.lemmas.Option.{slice_get_within}
 use Rattle.std.specs.Prelude.{slice_get, slice_index}
 use Rattle.sp_paths.specs.Paths.{Graph, IsFar}
 use Rattle.sp_paths.specs.Bags.{AreSame}
-use Rattle.sp_lists.specs.declared.answers.Told.{Told}
-use Rattle.sp_lists.specs.declared.answers.Told.TheVariants.{Tree, TooFar, Memory}
-use Rattle.sp_lists.specs.declared.answers.Batch.{Batch}
+use Rattle.sp_lists.specs.declared.outcomes.Outcome.{Outcome}
+use Rattle.sp_lists.specs.declared.outcomes.Outcome.TheVariants.{Done, TooFar, Memory}
+use Rattle.sp_lists.specs.declared.outcomes.BatchOutcome.{BatchOutcome}
 use Rattle.sp_lists.specs.Limits.{reach}
 use Rattle.sp_lists.specs.Blocks.{Slices, IsCell, HasSameAt, HasTreeAt, KeepsFrom, HasNone, EndsBy, AreSolved}
 use Rattle.spt_c.specs.declared.arcs.SptArc.{SptArc}
 use Rattle.spt_c.specs.Arcs.{graph_of}
 use Rattle.spt_c.specs.Asked.{asked}
-use Rattle.spt_c.specs.Told.{answer_of, IsTold}
+use Rattle.spt_c.specs.Outcome.{answer_of, IsTold}
 use Rattle.spt_c.proofs.Same.{same_solved}
 
 -- A list of one source has no other.
@@ -25,21 +25,21 @@ only x s k e =
     let here : Some x ≡ Some s = subst (λ j. slice_get (x ∷ []) j ≡ Some s) first e in
     cc
 
-none_of : (max : ℕ) (g : Graph) (s done : ℕ) (told : Told) → (told ≡ Tree → ⊥) → EndsBy max g (s ∷ []) done told → HasNone max g s told
-none_of max g s done Tree not is = absurd (not refl)
+none_of : (max : ℕ) (g : Graph) (s done : ℕ) (told : Outcome) → (told ≡ Done → ⊥) → EndsBy max g (s ∷ []) done told → HasNone max g s told
+none_of max g s done Done not is = absurd (not refl)
 none_of max g s done (TooFar v) not is = subst (λ x. IsFar g x max (Some v)) (only s is.0 done is.1) is.2
 none_of max g s done Memory not is = tt
 none_of max g s done told not is = absurd is
 
 -- Why one source isn't done is why it has no tree.
-pub no_tree : (max : ℕ) (g h : Graph) (s : ℕ) (old new : Slices) (b : Batch) → AreSame g h → AreSolved max g (s ∷ []) old new b → (b.told ≡ Tree → ⊥) → HasNone max h s b.told
+pub no_tree : (max : ℕ) (g h : Graph) (s : ℕ) (old new : Slices) (b : BatchOutcome) → AreSame g h → AreSolved max g (s ∷ []) old new b → (b.told ≡ Done → ⊥) → HasNone max h s b.told
 no_tree max g h s old new b same is not = none_of max h s b.done b.told not (same_solved max g h (s ∷ []) old new b same is).1
 
-done_one : (max : ℕ) (g : Graph) (s done : ℕ) (told : Told) → told ≡ Tree → EndsBy max g (s ∷ []) done told → done ≡ 1
+done_one : (max : ℕ) (g : Graph) (s done : ℕ) (told : Outcome) → told ≡ Done → EndsBy max g (s ∷ []) done told → done ≡ 1
 done_one max g s done told e is = subst (EndsBy max g (s ∷ []) done) e is
 
 -- One source that is done has its tree at the front.
-pub the_tree : (max : ℕ) (g h : Graph) (s : ℕ) (old new : Slices) (b : Batch) → AreSame g h → AreSolved max g (s ∷ []) old new b → b.told ≡ Tree → HasTreeAt max h s 0 new
+pub the_tree : (max : ℕ) (g h : Graph) (s : ℕ) (old new : Slices) (b : BatchOutcome) → AreSame g h → AreSolved max g (s ∷ []) old new b → b.told ≡ Done → HasTreeAt max h s 0 new
 the_tree max g h s old new b same is e =
     let solved : AreSolved max h (s ∷ []) old new b = same_solved max g h (s ∷ []) old new b same is in
     let one : b.done ≡ 1 = done_one max h s b.done b.told e solved.1 in
@@ -68,14 +68,14 @@ all_written m new old e = subst (λ k. take k (new ++ drop (length new) old) ≡
 
 -- ## A call for one source that tells of no tree writes nothing
 
-none_done : (max : ℕ) (g : Graph) (s done : ℕ) (told : Told) → EndsBy max g (s ∷ []) done told → ((answer_of told).status ≡ 0 → ⊥) → done ≡ 0
-none_done max g s done Tree is not = absurd (not refl)
+none_done : (max : ℕ) (g : Graph) (s done : ℕ) (told : Outcome) → EndsBy max g (s ∷ []) done told → ((answer_of told).status ≡ 0 → ⊥) → done ≡ 0
+none_done max g s done Done is not = absurd (not refl)
 none_done max g s done (TooFar v) is not = let within : done < length (s ∷ []) = slice_get_within (s ∷ []) done is.0 is.1 in omega arith
 none_done max g s done Memory (inl low) not = omega (arith, low)
 none_done max g s done Memory (inr none) not = none
 none_done max g s done told is not = absurd is
 
-pub nothing_written : (arcs : List SptArc) (n s delta : ℕ) (old new : Slices) (b : Batch) → IsTold (asked arcs n (s ∷ []) delta) old new b → ((answer_of b.told).status ≡ 0 → ⊥) → KeepsFrom 0 old new
+pub nothing_written : (arcs : List SptArc) (n s delta : ℕ) (old new : Slices) (b : BatchOutcome) → IsTold (asked arcs n (s ∷ []) delta) old new b → ((answer_of b.told).status ≡ 0 → ⊥) → KeepsFrom 0 old new
 nothing_written arcs n s delta old new b (inl refused) not = subst (KeepsFrom 0 old) (sym refused.same) (λ k low. (refl, refl))
 nothing_written arcs n s delta old new b (inr answer) not =
     let none : b.done ≡ 0 = none_done (reach n) (graph_of n arcs) s b.done b.told answer.solved.1 not in

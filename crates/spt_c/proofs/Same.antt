@@ -6,9 +6,9 @@ use Rattle.sp_paths.specs.declared.arc.Arc.{Arc}
 use Rattle.sp_paths.specs.Paths.{Graph}
 use Rattle.sp_paths.specs.Bags.{AreSame}
 use Rattle.sp_paths.proofs.SameArcs.{same_arcs_same_answers}
-use Rattle.sp_lists.specs.declared.answers.Told.{Told}
-use Rattle.sp_lists.specs.declared.answers.Told.TheVariants.{TooFar}
-use Rattle.sp_lists.specs.declared.answers.Batch.{Batch}
+use Rattle.sp_lists.specs.declared.outcomes.Outcome.{Outcome}
+use Rattle.sp_lists.specs.declared.outcomes.Outcome.TheVariants.{TooFar}
+use Rattle.sp_lists.specs.declared.outcomes.BatchOutcome.{BatchOutcome}
 use Rattle.sp_lists.specs.Blocks.{Slices, AreCells, HasTreeAt, KeepsFrom, EndsBy, AreSolved}
 
 pub same_graph : (n : ℕ) (arcs : List Arc) (graph : Graph) → graph.n ≡ n → IsPermutation arcs graph.arcs → AreSame graph (record { n = n; arcs = arcs })
@@ -27,12 +27,12 @@ same_tree max g h s i there same is =
       cells = subst (λ n. AreCells (i * n) n is.words there) same.n is.cells;
     }
 
-same_ends : (max : ℕ) (g h : Graph) (sources : List ℕ) (done : ℕ) (told : Told) → AreSame g h → EndsBy max g sources done told → EndsBy max h sources done told
+same_ends : (max : ℕ) (g h : Graph) (sources : List ℕ) (done : ℕ) (told : Outcome) → AreSame g h → EndsBy max g sources done told → EndsBy max h sources done told
 same_ends max g h sources done (TooFar v) same is = (is.0, is.1, (same_arcs_same_answers g h same).far is.0 max (Some v) is.2)
 same_ends max g h sources done told same is = is
 
 -- What is told of the rows of a graph is told of the arcs that were passed.
-pub same_solved : (max : ℕ) (g h : Graph) (sources : List ℕ) (old new : Slices) (b : Batch) → AreSame g h → AreSolved max g sources old new b → AreSolved max h sources old new b
+pub same_solved : (max : ℕ) (g h : Graph) (sources : List ℕ) (old new : Slices) (b : BatchOutcome) → AreSame g h → AreSolved max g sources old new b → AreSolved max h sources old new b
 same_solved max g h sources old new b same is = (
   record {
     trees = λ i s below there. same_tree max g h s i new same (is.0.trees i s below there);

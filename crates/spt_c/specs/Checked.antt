@@ -1,8 +1,8 @@
 -- The verdict on slices that C passes as a tree.
 use Rattle.std.specs.Prelude.{◌<◌, ◌-◌, ◌⊎◌, ℕ, List, [], ◌∷◌, Some}
 use Rattle.sp_paths.specs.Paths.{Graph, IsVertex, IsFar}
-use Rattle.sp_lists.specs.declared.answers.Told.{Told}
-use Rattle.sp_lists.specs.declared.answers.Told.TheVariants.{Tree, TooFar, Memory, Wrong}
+use Rattle.sp_lists.specs.declared.outcomes.Outcome.{Outcome}
+use Rattle.sp_lists.specs.declared.outcomes.Outcome.TheVariants.{Done, TooFar, Memory, Wrong}
 use Rattle.sp_lists.specs.Limits.{reach}
 use Rattle.sp_lists.specs.Blocks.{Slices, places, HasSameAt, HasTreeAt}
 use Rattle.spt_c.specs.declared.arcs.SptArc.{SptArc}
@@ -22,13 +22,13 @@ pub record IsFirstWrong (max : ℕ) (g : Graph) (s : ℕ) (there : Slices) (v : 
   pub other : IsFirstOther g.n right there v
 
 -- The slices hold the tree from s, or this is where they don't, or why there is no tree.
-abbrev pub IsVerdict : (max : ℕ) → Graph → (s : ℕ) → Slices → Told → Type 0
-IsVerdict max g s there Tree = HasTreeAt max g s 0 there
+abbrev pub IsVerdict : (max : ℕ) → Graph → (s : ℕ) → Slices → Outcome → Type 0
+IsVerdict max g s there Done = HasTreeAt max g s 0 there
 IsVerdict max g s there (Wrong v) = IsFirstWrong max g s there v
 IsVerdict max g s there (TooFar v) = IsFar g s max (Some v)
 IsVerdict max g s there Memory = Unit {0}
 IsVerdict max g s there told = ⊥
 
 -- Something is wrong with the call; or nothing is, and this is the verdict.
-abbrev pub IsChecked : (n : ℕ) → List SptArc → (s : ℕ) → Slices → Told → Type 0
+abbrev pub IsChecked : (n : ℕ) → List SptArc → (s : ℕ) → Slices → Outcome → Type 0
 IsChecked n arcs s there told = IsRefused (asked arcs n (s ∷ []) 0) (places there) told ⊎ (IsGood (asked arcs n (s ∷ []) 0) (places there) × IsVerdict (reach n) (graph_of n arcs) s there told)

@@ -4,24 +4,24 @@ use Rattle.std.specs.declared.option.Option.{Option}
 use Rattle.std.specs.declared.option.Option.TheVariants.{None, Some}
 use Rattle.sp_paths.specs.Paths.{Graph}
 use Rattle.sp_paths.specs.Bags.{AreSame}
-use Rattle.sp_lists.specs.declared.answers.Batch.{Batch}
-use Rattle.sp_lists.specs.declared.answers.Told.TheVariants.{NoGraph}
+use Rattle.sp_lists.specs.declared.outcomes.BatchOutcome.{BatchOutcome}
+use Rattle.sp_lists.specs.declared.outcomes.Outcome.TheVariants.{NoGraph}
 use Rattle.sp_lists.specs.Limits.{IsCount, IsFirstWithout, reach}
 use Rattle.sp_lists.specs.Blocks.{Slices, places, AreSolved}
 use Rattle.spt_c.specs.declared.arcs.SptArc.{SptArc}
 use Rattle.spt_c.specs.declared.answers.SptAnswer.{SptAnswer}
 use Rattle.spt_c.specs.declared.counts.SptCounts.{SptCounts}
-use Rattle.spt_c.specs.declared.making.Made.{Made}
-use Rattle.spt_c.specs.declared.making.Made.TheVariants.{Kept, BadSize, BadArc, Memory, NoGraph as NoGraphMade, InUse}
+use Rattle.spt_c.specs.declared.making.KeepOutcome.{KeepOutcome}
+use Rattle.spt_c.specs.declared.making.KeepOutcome.TheVariants.{Kept, BadSize, BadArc, Memory, NoGraph as NoGraphMade, InUse}
 use Rattle.spt_c.specs.Arcs.{graph_of}
-use Rattle.spt_c.specs.Asked.{Asked, asked, IsArcOf, IsGood}
-use Rattle.spt_c.specs.Told.{IsRefusal}
+use Rattle.spt_c.specs.Asked.{AskedTrees, asked, IsArcOf, IsGood}
+use Rattle.spt_c.specs.Outcome.{IsRefusal}
 use Rattle.spt_c.specs.InUse.{answer_in_use}
 
 -- ## A graph is made
 
 -- These are the numbers of the header.
-abbrev pub made_of : Made → SptAnswer
+abbrev pub made_of : KeepOutcome → SptAnswer
 made_of Kept = record { status = 0; vertex = 0; index = 0 }
 made_of BadSize = record { status = 1; vertex = 0; index = 0 }
 made_of (BadArc place) = record { status = 3; vertex = 0; index = place }
@@ -39,7 +39,7 @@ abbrev pub HasGraph : (n : ℕ) → List SptArc → Type 0
 HasGraph n arcs = IsCount n × All (IsArcOf n) arcs
 
 -- The graph is kept, or the one that was kept before.
-abbrev pub IsMade : (n : ℕ) → List SptArc → (old new : Option Graph) → Made → Type 0
+abbrev pub IsMade : (n : ℕ) → List SptArc → (old new : Option Graph) → KeepOutcome → Type 0
 IsMade n arcs old new Kept = HasGraph n arcs × Keeps n arcs new
 IsMade n arcs old new BadSize = (IsCount n → ⊥) × (new ≡ old)
 IsMade n arcs old new (BadArc place) = IsCount n × IsFirstWithout (IsArcOf n) arcs place × (new ≡ old)
@@ -47,7 +47,7 @@ IsMade n arcs old new Memory = HasGraph n arcs × (new ≡ old)
 IsMade n arcs old new made = ⊥
 
 -- The second place keeps what the first keeps, or what it kept before.
-abbrev pub IsShared : (first old new : Option Graph) → Made → Type 0
+abbrev pub IsShared : (first old new : Option Graph) → KeepOutcome → Type 0
 IsShared first old new Kept = new ≡ first
 IsShared first old new Memory = new ≡ old
 IsShared first old new made = ⊥
@@ -60,25 +60,25 @@ counts_of (Some g) = record { status = 0; n = g.n; m = length g.arcs }
 -- ## Its trees
 
 -- A call for the trees of a graph that is kept passes no arcs.
-abbrev pub asked_of : Graph → (sources : List ℕ) → (delta : ℕ) → Asked
+abbrev pub asked_of : Graph → (sources : List ℕ) → (delta : ℕ) → AskedTrees
 asked_of g sources delta = asked [] g.n sources delta
 
 -- Nothing is wrong, and the slices hold the trees of the sources up to the first that has none.
-pub record IsAnswerOf (g : Graph) (sources : List ℕ) (delta : ℕ) (old new : Slices) (b : Batch) : Type 0 where
+pub record IsAnswerOf (g : Graph) (sources : List ℕ) (delta : ℕ) (old new : Slices) (b : BatchOutcome) : Type 0 where
   pub good : IsGood (asked_of g sources delta) (places old)
   pub solved : AreSolved (reach g.n) g sources old new b
 
 -- The result of a call for the trees of sources in a graph: a refusal, or the answer.
-abbrev pub IsToldOf : Graph → (sources : List ℕ) → (delta : ℕ) → (old new : Slices) → Batch → Type 0
+abbrev pub IsToldOf : Graph → (sources : List ℕ) → (delta : ℕ) → (old new : Slices) → BatchOutcome → Type 0
 IsToldOf g sources delta old new b = IsRefusal (asked_of g sources delta) old new b ⊎ IsAnswerOf g sources delta old new b
 
 -- No graph is kept, and nothing is written.
-pub record IsWithoutGraph (old new : Slices) (b : Batch) : Type 0 where
+pub record IsWithoutGraph (old new : Slices) (b : BatchOutcome) : Type 0 where
   pub why : b.told ≡ NoGraph
   pub none : b.done ≡ 0
   pub same : new ≡ old
 
 -- The result of a call for trees in the graph that a place keeps, if it keeps one.
-abbrev pub IsToldOfKept : Option Graph → (sources : List ℕ) → (delta : ℕ) → (old new : Slices) → Batch → Type 0
+abbrev pub IsToldOfKept : Option Graph → (sources : List ℕ) → (delta : ℕ) → (old new : Slices) → BatchOutcome → Type 0
 IsToldOfKept None sources delta old new b = IsWithoutGraph old new b
 IsToldOfKept (Some g) sources delta old new b = IsToldOf g sources delta old new b

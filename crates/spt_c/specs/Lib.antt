@@ -1,7 +1,7 @@
 pub mod Arcs
 pub mod Asked
 pub mod Question
-pub mod Told
+pub mod Outcome
 pub mod Checked
 pub mod Found
 pub mod Texts

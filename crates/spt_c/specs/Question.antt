@@ -1,7 +1,7 @@
 -- The question of a call.
-use Rattle.spt_c.specs.declared.calls.Question.{Question}
-use Rattle.spt_c.specs.Asked.{Asked, asked}
+use Rattle.spt_c.specs.declared.calls.TreesRequest.{TreesRequest}
+use Rattle.spt_c.specs.Asked.{AskedTrees, asked}
 
 -- The question as definitions state it.
-abbrev pub asked_by : Question → Asked
+abbrev pub asked_by : TreesRequest → AskedTrees
 asked_by q = asked q.arcs.now q.n q.sources.now q.delta

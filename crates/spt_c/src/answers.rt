@@ -1,10 +1,10 @@
 //! The results of calls.
 ghost use Rattle.std.specs.Prelude.{◌≡◌};
-ghost use Rattle.spt_c.specs.Told.{answer_of, batch_of};
+ghost use Rattle.spt_c.specs.Outcome.{answer_of, batch_of};
 ghost use Rattle.spt_c.specs.InUse.{answer_in_use, batch_in_use, part_in_use};
 ghost use Rattle.spt_c.specs.KeptLists.{part_of};
 
-use sp_lists::{Batch, Listed, Told};
+use sp_lists::{BatchOutcome, ListingOutcome, Outcome};
 
 /// The result of a call for one source: a status, the vertex that is too far, and the index of the invalid arc or
 /// source. A field that the status doesn't use is 0.
@@ -47,20 +47,20 @@ fn reply(status: u32, vertex: u32, place: usize) -> SptAnswer
 
 impl SptAnswer {
     /// Returns the result in the form for C.
-    pub(crate) fn of(told: Told) -> SptAnswer
+    pub(crate) fn of(told: Outcome) -> SptAnswer
         ensures { result ≡ answer_of told }
     {
         match told {
-            Told::Tree => reply(0, 0, 0),
-            Told::BadSize => reply(1, 0, 0),
-            Told::BadDelta => reply(2, 0, 0),
-            Told::BadArc(place) => reply(3, 0, place),
-            Told::NoSuchVertex(place) => reply(4, 0, place),
-            Told::TooFar(vertex) => reply(5, vertex, 0),
-            Told::Memory => reply(6, 0, 0),
-            Told::Wrong(vertex) => reply(9, vertex, 0),
-            Told::NoGraph => reply(10, 0, 0),
-            Told::BadLimit => reply(11, 0, 0),
+            Outcome::Done => reply(0, 0, 0),
+            Outcome::BadSize => reply(1, 0, 0),
+            Outcome::BadDelta => reply(2, 0, 0),
+            Outcome::BadArc(place) => reply(3, 0, place),
+            Outcome::NoSuchVertex(place) => reply(4, 0, place),
+            Outcome::TooFar(vertex) => reply(5, vertex, 0),
+            Outcome::Memory => reply(6, 0, 0),
+            Outcome::Wrong(vertex) => reply(9, vertex, 0),
+            Outcome::NoGraph => reply(10, 0, 0),
+            Outcome::BadLimit => reply(11, 0, 0),
         }
     }
 
@@ -74,7 +74,7 @@ impl SptAnswer {
 
 impl SptBatch {
     /// Returns the result for several sources in the form for C.
-    pub(crate) fn of(batch: Batch) -> SptBatch
+    pub(crate) fn of(batch: BatchOutcome) -> SptBatch
         ensures { result ≡ batch_of batch }
     {
         let answer = SptAnswer::of(batch.told);
@@ -101,7 +101,7 @@ impl SptBatch {
 
 impl SptPart {
     /// Returns the result for a part in the form for C.
-    pub(crate) fn of(listed: Listed) -> SptPart
+    pub(crate) fn of(listed: ListingOutcome) -> SptPart
         ensures { result ≡ part_of listed }
     {
         SptPart {

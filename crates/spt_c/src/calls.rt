@@ -4,17 +4,17 @@ ghost use Rattle.sp_lists.specs.Blocks.{slices};
 ghost use Rattle.spt_c.specs.Kept.{IsToldOf};
 ghost use Rattle.spt_c.specs.KeptLists.{limit_of};
 ghost use Rattle.spt_c.specs.Question.{asked_by};
-ghost use Rattle.spt_c.specs.Told.{IsTold};
+ghost use Rattle.spt_c.specs.Outcome.{IsTold};
 
 use crate::arcs::{SptArc, graph_of};
 use crate::refusals::refusal;
-use sp_lists::{AnyRoom, Batch, Prepared, Told, write_trees};
+use sp_lists::{AnySearchPool, BatchOutcome, Outcome, Prepared, write_trees};
 use std::alloc::Global;
 
 /// What a call asks for: the trees from these sources in the graph of n vertices with these arcs. Delta is tested, and
 /// has no other effect.
 #[derive(Clone, Copy)]
-pub(crate) struct Question<'a> {
+pub(crate) struct TreesRequest<'a> {
     pub arcs: &'a [SptArc],
     pub n: u32,
     pub sources: &'a [u32],
@@ -22,11 +22,16 @@ pub(crate) struct Question<'a> {
 }
 
 /// Tests all arguments, and writes the trees of the sources.
-pub(crate) fn solve(alloc: Global, question: &Question, dist: &mut [u64], pred: &mut [u32]) -> Batch
+pub(crate) fn solve(
+    alloc: Global,
+    question: &TreesRequest,
+    dist: &mut [u64],
+    pred: &mut [u32],
+) -> BatchOutcome
     ensures { IsTold (asked_by question.now)
         (slices dist.old pred.old) (slices dist.new pred.new) result }
 {
-    let Question {
+    let TreesRequest {
         arcs,
         n,
         sources,
@@ -34,17 +39,17 @@ pub(crate) fn solve(alloc: Global, question: &Question, dist: &mut [u64], pred: 
     } = *question;
     let places = dist.len().min(pred.len());
     if let Some(told) = refusal(arcs, n, sources, delta, places) {
-        return Batch::none(told);
+        return BatchOutcome::none(told);
     }
     match graph_of(alloc, n, arcs) {
         Ok(graph) => {
             let prepared = Prepared {
                 graph: &graph,
-                room: &AnyRoom::new(),
+                pool: &AnySearchPool::new(),
             };
             write_trees(alloc, prepared, sources, dist, pred)
         }
-        Err(_) => Batch::none(Told::Memory),
+        Err(_) => BatchOutcome::none(Outcome::Memory),
     }
 }
 
@@ -56,13 +61,13 @@ pub(crate) fn solve_known(
     delta: u64,
     dist: &mut [u64],
     pred: &mut [u32],
-) -> Batch
+) -> BatchOutcome
     ensures { IsToldOf prepared.entry.graph.now sources.now delta
         (slices dist.old pred.old) (slices dist.new pred.new) result }
 {
     let places = dist.len().min(pred.len());
     if let Some(told) = refusal(&[], prepared.n(), sources, delta, places) {
-        return Batch::none(told);
+        return BatchOutcome::none(told);
     }
     write_trees(alloc, prepared, sources, dist, pred)
 }

@@ -6,7 +6,7 @@ ghost use Rattle.spt_c.specs.Checked.{IsFirstOther, IsChecked};
 use crate::arcs::SptArc;
 use crate::own::own_tree;
 use crate::refusals::refusal;
-use sp_lists::Told;
+use sp_lists::Outcome;
 use std::alloc::Global;
 
 // Returns the first vertex at which two lists of distances, or two of predecessors, differ.
@@ -43,7 +43,7 @@ pub(crate) fn check(
     source: u32,
     dist: &[u64],
     pred: &[u32],
-) -> Told
+) -> Outcome
     ensures { IsChecked n arcs.now source (slices dist.now pred.now) result }
 {
     let places = dist.len().min(pred.len());
@@ -53,8 +53,8 @@ pub(crate) fn check(
     }
     match own_tree(alloc, arcs, n, source) {
         Ok(own) => match first_other(n, own.dist.as_slice(), own.pred.as_slice(), dist, pred) {
-            Some(vertex) => Told::Wrong(vertex),
-            None => Told::Tree,
+            Some(vertex) => Outcome::Wrong(vertex),
+            None => Outcome::Done,
         },
         Err(told) => told,
     }

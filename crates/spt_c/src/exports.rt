@@ -5,30 +5,30 @@ ghost use Rattle.spt_c.specs.Place.{kept, IsInUse, IsFree, IsSame};
 ghost use Rattle.spt_c.specs.InUse.{answer_in_use, batch_in_use, part_in_use, found_in_use, counts_in_use, packed_in_use, saved_in_use};
 ghost use Rattle.sp_lists.specs.Limits.{IsCount, reach};
 ghost use Rattle.sp_lists.specs.Blocks.{slices, KeepsFrom};
-ghost use Rattle.sp_lists.specs.Near.{lists};
+ghost use Rattle.sp_lists.specs.ForestQuestion.{lists};
 ghost use Rattle.sp_lists.specs.Listed.{listing};
-ghost use Rattle.sp_lists.specs.declared.answers.Batch.{Batch};
-ghost use Rattle.sp_lists.specs.declared.answers.Listed.{Listed};
-ghost use Rattle.sp_lists.specs.declared.answers.Told.{Told};
+ghost use Rattle.sp_lists.specs.declared.outcomes.BatchOutcome.{BatchOutcome};
+ghost use Rattle.sp_lists.specs.declared.outcomes.ListingOutcome.{ListingOutcome};
+ghost use Rattle.sp_lists.specs.declared.outcomes.Outcome.{Outcome};
 ghost use Rattle.sp_lists.specs.declared.cells.Cell.{Cell};
 ghost use Rattle.spt_c.specs.Asked.{asked};
-ghost use Rattle.spt_c.specs.Told.{IsTold, answer_of, batch_of};
+ghost use Rattle.spt_c.specs.Outcome.{IsTold, answer_of, batch_of};
 ghost use Rattle.spt_c.specs.Checked.{IsChecked};
 ghost use Rattle.spt_c.specs.KeptLists.{limit_of, part_of, IsPartOfKept, IsListOfKept, IsForestOfKept, IsMatrixOfKept};
 ghost use Rattle.spt_c.specs.Found.{IsFound, IsFoundOfKept, found_of};
 ghost use Rattle.spt_c.specs.Texts.{IsRead, text_of};
 ghost use Rattle.spt_c.specs.Kept.{made_of, IsMade, IsShared, counts_of, IsToldOfKept};
-ghost use Rattle.sp_turned.specs.Turned.{IsTurned, IsBothWays};
+ghost use Rattle.sp_network.specs.Turned.{IsTurned, IsBothWays};
 ghost use Rattle.spt_c.specs.Turning.{IsMadeFrom};
 ghost use Rattle.spt_c.specs.Packing.{IsLoaded, IsSaved, packed_of, saved_of};
-ghost use Rattle.spt_c.specs.declared.making.Made.{Made};
+ghost use Rattle.spt_c.specs.declared.making.KeepOutcome.{KeepOutcome};
 ghost use Rattle.spt_c.specs.declared.packing.LoadAnswer.{LoadAnswer};
 ghost use Rattle.spt_c.specs.declared.packing.SaveAnswer.{SaveAnswer};
 ghost use Rattle.spt_c.specs.declared.texts.TextAnswer.{TextAnswer};
 
 use crate::answers::{SptAnswer, SptBatch, SptPart};
 use crate::arcs::SptArc;
-use crate::calls::{Question, limit_of, solve, solve_known};
+use crate::calls::{TreesRequest, limit_of, solve, solve_known};
 use crate::checking::check;
 use crate::counts::{SptCounts, counts};
 use crate::found::{SptFound, find, find_known};
@@ -39,8 +39,8 @@ use crate::place::{KeptGraph, Taken};
 use crate::texts::{SptText, read_graph};
 use crate::turning::{keep_both_ways, keep_turned};
 use sp_lists::{
-    Batch, Listed, Near, Part, Told, is_count, list_part, reach, write_forest, write_matrix,
-    write_part,
+    BatchOutcome, ForestQuestion, ListingOutcome, Outcome, PartQuestion, is_count, list_part,
+    reach, write_forest, write_matrix, write_part,
 };
 use std::alloc::Global;
 
@@ -73,14 +73,14 @@ pub extern "C" fn spt_tree(
     dist: &mut [u64],
     pred: &mut [u32],
 ) -> SptAnswer
-    ensures told { (batch : Batch) × (result ≡ answer_of batch.told)
+    ensures told { (batch : BatchOutcome) × (result ≡ answer_of batch.told)
         × IsTold (asked arcs.now n (source ∷ []) delta)
         (slices dist.old pred.old) (slices dist.new pred.new) batch }
     ensures unchanged { result.status ≢ 0
         → KeepsFrom 0 (slices dist.old pred.old) (slices dist.new pred.new) }
 {
     let sources = [source];
-    let question = Question {
+    let question = TreesRequest {
         arcs,
         n,
         sources: &sources,
@@ -102,11 +102,11 @@ pub extern "C" fn spt_trees(
     dist: &mut [u64],
     pred: &mut [u32],
 ) -> SptBatch
-    ensures { (batch : Batch) × (result ≡ batch_of batch)
+    ensures { (batch : BatchOutcome) × (result ≡ batch_of batch)
         × IsTold (asked arcs.now n sources.now delta)
         (slices dist.old pred.old) (slices dist.new pred.new) batch }
 {
-    let wanted = Question {
+    let wanted = TreesRequest {
         arcs,
         n,
         sources,
@@ -138,7 +138,7 @@ pub extern "C" fn spt_pair(
     target: u32,
     delta: u64,
 ) -> SptFound
-    ensures { (found : Result Cell Told) × (result ≡ found_of found)
+    ensures { (found : Result Cell Outcome) × (result ≡ found_of found)
         × IsFound n arcs.now source target delta found }
 {
     let found = find(alloc, arcs, n, source, target, delta);
@@ -156,7 +156,7 @@ pub extern "C" fn spt_check(
     dist: &[u64],
     pred: &[u32],
 ) -> SptAnswer
-    ensures { (told : Told) × (result ≡ answer_of told)
+    ensures { (told : Outcome) × (result ≡ answer_of told)
         × IsChecked n arcs.now source (slices dist.now pred.now) told }
 {
     let told = check(alloc, arcs, n, source, dist, pred);
@@ -173,7 +173,7 @@ pub extern "C" fn spt_graph_new(
     graph: &mut KeptGraph,
 ) -> SptAnswer
     ensures in_use { IsInUse graph.old → (result ≡ answer_in_use) × (graph.new ≡ graph.old) }
-    ensures made { IsFree graph.old → (made : Made) × (result ≡ made_of made)
+    ensures made { IsFree graph.old → (made : KeepOutcome) × (result ≡ made_of made)
         × IsMade n arcs.now (kept graph.old) (kept graph.new) made }
     ensures free { IsFree graph.old → IsFree graph.new }
 {
@@ -191,7 +191,7 @@ pub extern "C" fn spt_graph_share(
 ) -> SptAnswer
     ensures in_use_from { IsInUse from.old → (result ≡ answer_in_use) × IsSame to.old to.new }
     ensures in_use_to { IsInUse to.old → (result ≡ answer_in_use) × IsSame to.old to.new }
-    ensures to { IsFree from.old → IsFree to.old → (made : Made) × (result ≡ made_of made)
+    ensures to { IsFree from.old → IsFree to.old → (made : KeepOutcome) × (result ≡ made_of made)
         × IsShared (kept from.old) (kept to.old) (kept to.new) made }
     ensures free { IsFree to.old → IsFree to.new }
     ensures same { IsSame from.old from.new }
@@ -222,14 +222,14 @@ pub extern "C" fn spt_graph_trees(
     dist: &mut [u64],
     pred: &mut [u32],
 ) -> SptBatch
-    ensures told { IsFree graph.old → (batch : Batch) × (result ≡ batch_of batch)
+    ensures told { IsFree graph.old → (batch : BatchOutcome) × (result ≡ batch_of batch)
         × IsToldOfKept (kept graph.old) sources.now delta
         (slices dist.old pred.old) (slices dist.new pred.new) batch }
     ensures in_use { IsInUse graph.old
         → (result ≡ batch_in_use) × (dist.new ≡ dist.old) × (pred.new ≡ pred.old) }
     ensures same { IsSame graph.old graph.new }
 {
-    of_kept!(alloc, graph, held => SptBatch::of(solve_known(alloc, held.prepared(), sources, delta, dist, pred)), SptBatch::of(Batch::none(Told::NoGraph)), SptBatch::in_use())
+    of_kept!(alloc, graph, held => SptBatch::of(solve_known(alloc, held.prepared(), sources, delta, dist, pred)), SptBatch::of(BatchOutcome::none(Outcome::NoGraph)), SptBatch::in_use())
 }
 
 /// Returns the distance and the predecessor of a target in the shortest-path tree from a source in the kept graph, or
@@ -242,12 +242,12 @@ pub extern "C" fn spt_graph_pair(
     target: u32,
     delta: u64,
 ) -> SptFound
-    ensures told { IsFree graph.old → (found : Result Cell Told) × (result ≡ found_of found)
+    ensures told { IsFree graph.old → (found : Result Cell Outcome) × (result ≡ found_of found)
         × IsFoundOfKept (kept graph.old) source target delta found }
     ensures in_use { IsInUse graph.old → result ≡ found_in_use }
     ensures same { IsSame graph.old graph.new }
 {
-    of_kept!(alloc, graph, held => SptFound::of(find_known(alloc, held.prepared(), source, target, delta)), SptFound::of(Err(Told::NoGraph)), SptFound::in_use())
+    of_kept!(alloc, graph, held => SptFound::of(find_known(alloc, held.prepared(), source, target, delta)), SptFound::of(Err(Outcome::NoGraph)), SptFound::in_use())
 }
 
 /// Returns the numbers of vertices and arcs of the kept graph.
@@ -273,19 +273,19 @@ pub extern "C" fn spt_graph_within(
     dist: &mut [u64],
     pred: &mut [u32],
 ) -> SptAnswer
-    ensures told { IsFree graph.old → (told : Told) × (result ≡ answer_of told)
+    ensures told { IsFree graph.old → (told : Outcome) × (result ≡ answer_of told)
         × IsPartOfKept (kept graph.old) source limit delta
         (slices dist.old pred.old) (slices dist.new pred.new) told }
     ensures in_use { IsInUse graph.old
         → (result ≡ answer_in_use) × (dist.new ≡ dist.old) × (pred.new ≡ pred.old) }
     ensures same { IsSame graph.old graph.new }
 {
-    let part = Part {
+    let part = PartQuestion {
         source,
         limit,
         delta,
     };
-    of_kept!(alloc, graph, held => SptAnswer::of(write_part(alloc, held.prepared(), part, dist, pred)), SptAnswer::of(Told::NoGraph), SptAnswer::in_use())
+    of_kept!(alloc, graph, held => SptAnswer::of(write_part(alloc, held.prepared(), part, dist, pred)), SptAnswer::of(Outcome::NoGraph), SptAnswer::in_use())
 }
 
 /// Lists the part of the shortest-path tree from a source that is within the limit, in the kept graph: the vertices
@@ -301,19 +301,19 @@ pub extern "C" fn spt_graph_part(
     dist: &mut [u64],
     pred: &mut [u32],
 ) -> SptPart
-    ensures told { IsFree graph.old → (listed : Listed) × (result ≡ part_of listed)
+    ensures told { IsFree graph.old → (listed : ListingOutcome) × (result ≡ part_of listed)
         × IsListOfKept (kept graph.old) source limit 0
         (listing vertex.old dist.old pred.old) (listing vertex.new dist.new pred.new) listed }
     ensures in_use { IsInUse graph.old → (result ≡ part_in_use)
         × (vertex.new ≡ vertex.old) × (dist.new ≡ dist.old) × (pred.new ≡ pred.old) }
     ensures same { IsSame graph.old graph.new }
 {
-    let part = Part {
+    let part = PartQuestion {
         source,
         limit,
         delta: 0,
     };
-    of_kept!(alloc, graph, held => SptPart::of(list_part(alloc, held.prepared(), part, vertex, dist, pred)), SptPart::of(Listed::none(Told::NoGraph)), SptPart::in_use())
+    of_kept!(alloc, graph, held => SptPart::of(list_part(alloc, held.prepared(), part, vertex, dist, pred)), SptPart::of(ListingOutcome::none(Outcome::NoGraph)), SptPart::in_use())
 }
 
 /// Writes the forest of shortest paths from the sources in the kept graph. Each vertex gets its least distance from any
@@ -331,19 +331,19 @@ pub extern "C" fn spt_graph_nearest(
     pred: &mut [u32],
     root: &mut [u32],
 ) -> SptAnswer
-    ensures told { IsFree graph.old → (told : Told) × (result ≡ answer_of told)
+    ensures told { IsFree graph.old → (told : Outcome) × (result ≡ answer_of told)
         × IsForestOfKept (kept graph.old) sources.now (limit_of limit) delta
         (lists dist.old pred.old root.old) (lists dist.new pred.new root.new) told }
     ensures in_use { IsInUse graph.old → (result ≡ answer_in_use)
         × (dist.new ≡ dist.old) × (pred.new ≡ pred.old) × (root.new ≡ root.old) }
     ensures same { IsSame graph.old graph.new }
 {
-    let near = Near {
+    let near = ForestQuestion {
         sources,
         limit: limit_of(limit),
         delta,
     };
-    of_kept!(alloc, graph, held => SptAnswer::of(write_forest(alloc, held.prepared(), near, dist, pred, root)), SptAnswer::of(Told::NoGraph), SptAnswer::in_use())
+    of_kept!(alloc, graph, held => SptAnswer::of(write_forest(alloc, held.prepared(), near, dist, pred, root)), SptAnswer::of(Outcome::NoGraph), SptAnswer::in_use())
 }
 
 /// Writes the distances of the targets from each source in the kept graph, row by row. A distance is the greatest
@@ -359,13 +359,13 @@ pub extern "C" fn spt_graph_matrix(
     delta: u64,
     dist: &mut [u64],
 ) -> SptBatch
-    ensures told { IsFree graph.old → (batch : Batch) × (result ≡ batch_of batch)
+    ensures told { IsFree graph.old → (batch : BatchOutcome) × (result ≡ batch_of batch)
         × IsMatrixOfKept (kept graph.old) sources.now targets.now delta
         dist.old dist.new batch }
     ensures in_use { IsInUse graph.old → (result ≡ batch_in_use) × (dist.new ≡ dist.old) }
     ensures same { IsSame graph.old graph.new }
 {
-    of_kept!(alloc, graph, held => SptBatch::of(write_matrix(alloc, held.prepared(), sources, targets, delta, dist)), SptBatch::of(Batch::none(Told::NoGraph)), SptBatch::in_use())
+    of_kept!(alloc, graph, held => SptBatch::of(write_matrix(alloc, held.prepared(), sources, targets, delta, dist)), SptBatch::of(BatchOutcome::none(Outcome::NoGraph)), SptBatch::in_use())
 }
 
 /// Keeps the graph of the second place with each arc turned round, in place of what was kept. If that fails, the status
@@ -379,7 +379,7 @@ pub extern "C" fn spt_graph_turned(
     ensures in_use { IsInUse graph.old → (result ≡ answer_in_use) × IsSame graph.old graph.new }
     ensures in_use_from { IsInUse from.old
         → (result ≡ answer_in_use) × IsSame graph.old graph.new }
-    ensures made { IsFree graph.old → IsFree from.old → (made : Made) × (result ≡ made_of made)
+    ensures made { IsFree graph.old → IsFree from.old → (made : KeepOutcome) × (result ≡ made_of made)
         × IsMadeFrom IsTurned (kept from.old) (kept graph.old) (kept graph.new) made }
     ensures free { IsFree graph.old → IsFree graph.new }
     ensures same { IsSame from.old from.new }
@@ -399,7 +399,7 @@ pub extern "C" fn spt_graph_both_ways(
     ensures in_use { IsInUse graph.old → (result ≡ answer_in_use) × IsSame graph.old graph.new }
     ensures in_use_from { IsInUse from.old
         → (result ≡ answer_in_use) × IsSame graph.old graph.new }
-    ensures made { IsFree graph.old → IsFree from.old → (made : Made) × (result ≡ made_of made)
+    ensures made { IsFree graph.old → IsFree from.old → (made : KeepOutcome) × (result ≡ made_of made)
         × IsMadeFrom IsBothWays (kept from.old) (kept graph.old) (kept graph.new) made }
     ensures free { IsFree graph.old → IsFree graph.new }
     ensures same { IsSame from.old from.new }

@@ -7,7 +7,7 @@ ghost use Rattle.spt_c.specs.InUse.{found_in_use};
 use crate::answers::SptAnswer;
 use crate::arcs::{SptArc, graph_of};
 use crate::refusals::refusal;
-use sp_lists::{AnyRoom, Cell, Prepared, Told, find_target};
+use sp_lists::{AnySearchPool, Cell, Outcome, Prepared, find_target};
 use std::alloc::Global;
 
 /// The result of a call for a target: a status; the target's distance and predecessor; and the index of the invalid
@@ -23,7 +23,7 @@ pub struct SptFound {
 
 impl SptFound {
     /// Returns the target's cell in the form for C, or why there is none.
-    pub(crate) fn of(found: Result<Cell, Told>) -> SptFound
+    pub(crate) fn of(found: Result<Cell, Outcome>) -> SptFound
         ensures { result ≡ found_of found }
     {
         match found {
@@ -67,7 +67,7 @@ pub(crate) fn find(
     source: u32,
     target: u32,
     delta: u64,
-) -> Result<Cell, Told>
+) -> Result<Cell, Outcome>
     ensures { IsFound n arcs.now source target delta result }
 {
     let ends = [source, target];
@@ -78,11 +78,11 @@ pub(crate) fn find(
         Ok(graph) => {
             let made = Prepared {
                 graph: &graph,
-                room: &AnyRoom::new(),
+                pool: &AnySearchPool::new(),
             };
             find_target(alloc, made, source, target)
         }
-        Err(_) => Err(Told::Memory),
+        Err(_) => Err(Outcome::Memory),
     }
 }
 
@@ -93,7 +93,7 @@ pub(crate) fn find_known(
     source: u32,
     target: u32,
     delta: u64,
-) -> Result<Cell, Told>
+) -> Result<Cell, Outcome>
     ensures { IsFoundBy
         (asked [] prepared.entry.graph.now.n (source ∷ target ∷ []) delta)
         prepared.entry.graph.now source target result }

@@ -17,7 +17,7 @@ macro_rules! of_kept {
 }
 
 /// Makes a graph from the one in a second place, which still keeps it afterwards, for the first place, whose graph is
-/// taken out and passed on. The result is a `Made`.
+/// taken out and passed on. The result is a `KeepOutcome`.
 macro_rules! of_two {
     ($alloc:ident, $graph:ident, $from:ident, $held:ident, $before:ident => $made:expr) => {
         match $graph.begin($alloc) {
@@ -29,14 +29,14 @@ macro_rules! of_two {
                 }
                 Taken::Nothing => {
                     $graph.end($before);
-                    Made::NoGraph
+                    KeepOutcome::NoGraph
                 }
                 Taken::InUse => {
                     $graph.end($before);
-                    Made::InUse
+                    KeepOutcome::InUse
                 }
             },
-            Err(_) => Made::InUse,
+            Err(_) => KeepOutcome::InUse,
         }
     };
 }

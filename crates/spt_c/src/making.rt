@@ -2,19 +2,19 @@
 ghost use Rattle.std.specs.Prelude.{◌≡◌, IfOk, IfErr, None, Some};
 ghost use Rattle.spt_c.specs.Place.{kept, held_by, IsInUse, IsFree, IsSame};
 ghost use Rattle.spt_c.specs.Kept.{made_of, IsMade, IsShared};
-ghost use Rattle.spt_c.specs.declared.making.Made.TheVariants.{Kept, Memory, InUse};
+ghost use Rattle.spt_c.specs.declared.making.KeepOutcome.TheVariants.{Kept, Memory, InUse};
 ghost use Rattle.spt_c.specs.Owners.{held};
 
 use crate::answers::SptAnswer;
 use crate::arcs::{SptArc, first_bad, graph_of};
 use crate::place::{KeptGraph, Taken};
 use crate::shared::HeldGraph;
-use sp_lists::{Told, is_count};
+use sp_lists::{Outcome, is_count};
 use std::alloc::{AllocError, Global};
 
 /// The result of keeping a graph.
 #[derive(Clone, Copy, Debug, PartialEq, Eq)]
-pub(crate) enum Made {
+pub(crate) enum KeepOutcome {
     /// The graph is kept.
     Kept,
     /// The number of vertices is 0 or too large.
@@ -29,24 +29,24 @@ pub(crate) enum Made {
     InUse,
 }
 
-impl Made {
+impl KeepOutcome {
     /// Returns the result in the form for C.
     pub(crate) fn answer(self) -> SptAnswer
         ensures { result ≡ made_of self }
     {
         match self {
-            Made::Kept => SptAnswer::of(Told::Tree),
-            Made::BadSize => SptAnswer::of(Told::BadSize),
-            Made::BadArc(place) => SptAnswer::of(Told::BadArc(place)),
-            Made::Memory => SptAnswer::of(Told::Memory),
-            Made::NoGraph => SptAnswer::of(Told::NoGraph),
-            Made::InUse => SptAnswer::in_use(),
+            KeepOutcome::Kept => SptAnswer::of(Outcome::Done),
+            KeepOutcome::BadSize => SptAnswer::of(Outcome::BadSize),
+            KeepOutcome::BadArc(place) => SptAnswer::of(Outcome::BadArc(place)),
+            KeepOutcome::Memory => SptAnswer::of(Outcome::Memory),
+            KeepOutcome::NoGraph => SptAnswer::of(Outcome::NoGraph),
+            KeepOutcome::InUse => SptAnswer::in_use(),
         }
     }
 }
 
 /// Tests the size and the arcs of a graph, and keeps it, in place of what was kept.
-pub(crate) fn make(alloc: Global, arcs: &[SptArc], n: u32, graph: &mut KeptGraph) -> Made
+pub(crate) fn make(alloc: Global, arcs: &[SptArc], n: u32, graph: &mut KeptGraph) -> KeepOutcome
     ensures in_use { IsInUse graph.old → (result ≡ InUse) × (graph.new ≡ graph.old) }
     ensures made { IsFree graph.old
         → IsMade n arcs.now (kept graph.old) (kept graph.new) result }
@@ -54,7 +54,7 @@ pub(crate) fn make(alloc: Global, arcs: &[SptArc], n: u32, graph: &mut KeptGraph
 {
     match graph.begin(alloc) {
         Ok(before) => make_in(alloc, arcs, n, graph, before),
-        Err(_) => Made::InUse,
+        Err(_) => KeepOutcome::InUse,
     }
 }
 
@@ -65,33 +65,33 @@ fn make_in(
     n: u32,
     graph: &mut KeptGraph,
     before: Option<HeldGraph>,
-) -> Made
+) -> KeepOutcome
     requires { IsInUse graph.old }
     ensures made { IsMade n arcs.now (held_by before) (kept graph.new) result }
     ensures free { IsFree graph.new }
 {
     if !is_count(n) {
         graph.end(before);
-        return Made::BadSize;
+        return KeepOutcome::BadSize;
     }
     if let Some(place) = first_bad(n, arcs) {
         graph.end(before);
-        return Made::BadArc(place);
+        return KeepOutcome::BadArc(place);
     }
     match graph_of(alloc, n, arcs) {
         Ok(made) => match graph.end_with(alloc, made, before) {
-            Ok(()) => Made::Kept,
-            Err(_) => Made::Memory,
+            Ok(()) => KeepOutcome::Kept,
+            Err(_) => KeepOutcome::Memory,
         },
         Err(_) => {
             graph.end(before);
-            Made::Memory
+            KeepOutcome::Memory
         }
     }
 }
 
 /// Keeps the same graph in a second place as well, in place of what that place kept.
-pub(crate) fn share(alloc: Global, from: &mut KeptGraph, to: &mut KeptGraph) -> Made
+pub(crate) fn share(alloc: Global, from: &mut KeptGraph, to: &mut KeptGraph) -> KeepOutcome
     ensures in_use_from { IsInUse from.old → (result ≡ InUse) × IsSame to.old to.new }
     ensures in_use_to { IsInUse to.old → (result ≡ InUse) × IsSame to.old to.new }
     ensures to { IsFree from.old → IsFree to.old
@@ -109,14 +109,14 @@ pub(crate) fn share(alloc: Global, from: &mut KeptGraph, to: &mut KeptGraph) -> 
             Taken::Nothing => {
                 to.end(None);
                 drop(before);
-                Made::Kept
+                KeepOutcome::Kept
             }
             Taken::InUse => {
                 to.end(before);
-                Made::InUse
+                KeepOutcome::InUse
             }
         },
-        Err(_) => Made::InUse,
+        Err(_) => KeepOutcome::InUse,
     }
 }
 
@@ -125,7 +125,7 @@ fn share_in(
     to: &mut KeptGraph,
     another: Result<HeldGraph, AllocError>,
     before: Option<HeldGraph>,
-) -> Made
+) -> KeepOutcome
     requires { IsInUse to.old }
     ensures kept { IfOk another (λ other. (result ≡ Kept) × (kept to.new ≡ Some (held other))) }
     ensures memory { IfErr another (λ _. (result ≡ Memory) × (kept to.new ≡ held_by before)) }
@@ -135,11 +135,11 @@ fn share_in(
         Ok(other) => {
             to.end(Some(other));
             drop(before);
-            Made::Kept
+            KeepOutcome::Kept
         }
         Err(_) => {
             to.end(before);
-            Made::Memory
+            KeepOutcome::Memory
         }
     }
 }

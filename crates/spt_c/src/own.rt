@@ -7,7 +7,7 @@ ghost use Rattle.spt_c.specs.Arcs.{graph_of};
 ghost use Rattle.spt_c.specs.Asked.{IsArcOf};
 
 use crate::arcs::{SptArc, graph_of};
-use sp_lists::{AnyRoom, Prepared, Told, write_trees};
+use sp_lists::{AnySearchPool, Outcome, Prepared, write_trees};
 use std::alloc::{AllocError, Global};
 
 /// The distances and the predecessors by vertex.
@@ -28,7 +28,12 @@ fn bare(alloc: Global, n: u32) -> Result<OwnTree, AllocError>
 }
 
 /// Returns the tree of a source, or why it has none.
-pub(crate) fn own_tree(alloc: Global, arcs: &[SptArc], n: u32, source: u32) -> Result<OwnTree, Told>
+pub(crate) fn own_tree(
+    alloc: Global,
+    arcs: &[SptArc],
+    n: u32,
+    source: u32,
+) -> Result<OwnTree, Outcome>
     requires n { IsCount n }
     requires source { IsVertex n source }
     requires arcs { All (IsArcOf n) arcs.now }
@@ -39,20 +44,20 @@ pub(crate) fn own_tree(alloc: Global, arcs: &[SptArc], n: u32, source: u32) -> R
     ensures none { IfErr result (HasNone (reach n) (graph_of n arcs.now) source) }
 {
     let Ok(mut own) = bare(alloc, n) else {
-        return Err(Told::Memory);
+        return Err(Outcome::Memory);
     };
     let Ok(graph) = graph_of(alloc, n, arcs) else {
-        return Err(Told::Memory);
+        return Err(Outcome::Memory);
     };
     let prepared = Prepared {
         graph: &graph,
-        room: &AnyRoom::new(),
+        pool: &AnySearchPool::new(),
     };
     let sources = [source];
     let dist = own.dist.as_mut_slice();
     let pred = own.pred.as_mut_slice();
     match write_trees(alloc, prepared, &sources, dist, pred).told {
-        Told::Tree => Ok(own),
+        Outcome::Done => Ok(own),
         told => Err(told),
     }
 }

@@ -6,7 +6,7 @@ mod graph;
 
 pub use graph::{HeldGraph, SharedGraph};
 use sp_graph::Graph;
-use sp_lists::{AnyRoom, Prepared};
+use sp_lists::{AnySearchPool, Prepared};
 use std::alloc::{AllocError, Global};
 use std::sync::Arc;
 
@@ -17,7 +17,7 @@ impl SharedGraph {
     {
         Ok(SharedGraph {
             graph: Arc::new(alloc, graph)?,
-            room: AnyRoom::new(),
+            pool: AnySearchPool::new(),
         })
     }
 
@@ -27,7 +27,7 @@ impl SharedGraph {
     {
         Ok(SharedGraph {
             graph: Arc::try_clone(&self.graph)?,
-            room: AnyRoom::new(),
+            pool: AnySearchPool::new(),
         })
     }
 
@@ -38,13 +38,13 @@ impl SharedGraph {
         &self.graph
     }
 
-    /// Returns the graph with its room.
+    /// Returns the graph with its search buffers.
     pub fn prepared(&self) -> Prepared<'_>
         ensures { result.graph.now ≡ owned self.now }
     {
         Prepared {
             graph: &self.graph,
-            room: &self.room,
+            pool: &self.pool,
         }
     }
 }
@@ -57,7 +57,7 @@ impl HeldGraph {
         self.shared.graph()
     }
 
-    /// Returns the graph, and a room for searches in it. The room keeps its words until the next call.
+    /// Returns the graph, and buffers for searches in it. They keep their words until the next call.
     pub fn prepared(&self) -> Prepared<'_>
         ensures { result.graph.now ≡ held self.now }
     {

@@ -1,33 +1,38 @@
 //! The graph of a place, with its arcs turned round or leading both ways, in another place.
 ghost use Rattle.std.specs.Prelude.{◌≡◌, Some};
-ghost use Rattle.sp_turned.specs.Turned.{IsTurned, IsBothWays};
+ghost use Rattle.sp_network.specs.Turned.{IsTurned, IsBothWays};
 ghost use Rattle.spt_c.specs.Place.{kept, held_by, IsInUse, IsFree, IsSame};
 ghost use Rattle.spt_c.specs.Turning.{IsMadeFrom};
-ghost use Rattle.spt_c.specs.declared.making.Made.TheVariants.{InUse};
+ghost use Rattle.spt_c.specs.declared.making.KeepOutcome.TheVariants.{InUse};
 
 use crate::kept::of_two;
-use crate::making::Made;
+use crate::making::KeepOutcome;
 use crate::place::{KeptGraph, Taken};
 use crate::shared::HeldGraph;
 use sp_graph::Graph;
-use sp_turned::{both_ways_alone, turned_alone};
+use sp_network::{both_ways_alone, turned_alone};
 use std::alloc::Global;
 
 // Keeps a graph with its arcs turned round in a place that this call has taken, which kept `before`, and gives the place
 // back.
-fn turned_in(alloc: Global, from: &Graph, graph: &mut KeptGraph, before: Option<HeldGraph>) -> Made
+fn turned_in(
+    alloc: Global,
+    from: &Graph,
+    graph: &mut KeptGraph,
+    before: Option<HeldGraph>,
+) -> KeepOutcome
     requires { IsInUse graph.old }
     ensures made { IsMadeFrom IsTurned (Some from.now) (held_by before) (kept graph.new) result }
     ensures free { IsFree graph.new }
 {
     match turned_alone(alloc, from) {
         Ok(made) => match graph.end_with(alloc, made, before) {
-            Ok(()) => Made::Kept,
-            Err(_) => Made::Memory,
+            Ok(()) => KeepOutcome::Kept,
+            Err(_) => KeepOutcome::Memory,
         },
         Err(_) => {
             graph.end(before);
-            Made::Memory
+            KeepOutcome::Memory
         }
     }
 }
@@ -39,25 +44,25 @@ fn both_ways_in(
     from: &Graph,
     graph: &mut KeptGraph,
     before: Option<HeldGraph>,
-) -> Made
+) -> KeepOutcome
     requires { IsInUse graph.old }
     ensures made { IsMadeFrom IsBothWays (Some from.now) (held_by before) (kept graph.new) result }
     ensures free { IsFree graph.new }
 {
     match both_ways_alone(alloc, from) {
         Ok(made) => match graph.end_with(alloc, made, before) {
-            Ok(()) => Made::Kept,
-            Err(_) => Made::Memory,
+            Ok(()) => KeepOutcome::Kept,
+            Err(_) => KeepOutcome::Memory,
         },
         Err(_) => {
             graph.end(before);
-            Made::Memory
+            KeepOutcome::Memory
         }
     }
 }
 
 /// Keeps the graph of the second place in the first one, with its arcs turned round, in place of what was kept.
-pub(crate) fn keep_turned(alloc: Global, graph: &mut KeptGraph, from: &mut KeptGraph) -> Made
+pub(crate) fn keep_turned(alloc: Global, graph: &mut KeptGraph, from: &mut KeptGraph) -> KeepOutcome
     ensures in_use { IsInUse graph.old → (result ≡ InUse) × IsSame graph.old graph.new }
     ensures in_use_from { IsInUse from.old → (result ≡ InUse) × IsSame graph.old graph.new }
     ensures made { IsFree graph.old → IsFree from.old
@@ -69,7 +74,11 @@ pub(crate) fn keep_turned(alloc: Global, graph: &mut KeptGraph, from: &mut KeptG
 }
 
 /// Keeps the graph of the second place in the first one, with its arcs leading both ways, in place of what was kept.
-pub(crate) fn keep_both_ways(alloc: Global, graph: &mut KeptGraph, from: &mut KeptGraph) -> Made
+pub(crate) fn keep_both_ways(
+    alloc: Global,
+    graph: &mut KeptGraph,
+    from: &mut KeptGraph,
+) -> KeepOutcome
     ensures in_use { IsInUse graph.old → (result ≡ InUse) × IsSame graph.old graph.new }
     ensures in_use_from { IsInUse from.old → (result ≡ InUse) × IsSame graph.old graph.new }
     ensures made { IsFree graph.old → IsFree from.old

@@ -3,9 +3,9 @@ ghost use Rattle.std.specs.Prelude.{◌≡◌, true, IfOk};
 ghost use Rattle.sp_word.specs.Word.{is_layout};
 ghost use Rattle.sp_jobs.specs.Listing.{IsNumbered};
 
-use sp_device::{OfRead, UpToWriter};
-use sp_jobs::{BatchError, BucketWidth, Listing, Summary, run_batch};
-use sp_network::Peeked;
+use sp_device::{OfRead, Peeked, UpToWriter};
+use sp_jobs::{BatchError, BucketWidth, Listing, Nobody, Settings, Summary, run_batch};
+use sp_network::Direction;
 use sp_word::{Delta, Workers};
 use std::alloc::{AllocError, Global};
 use std::collections::VecDeque;
@@ -44,10 +44,29 @@ pub(crate) fn crew(rt: &impl Abort, number: u32) -> Workers {
 }
 
 /// The width of a bucket; without a number, that of the graph's mean arc length.
-pub(crate) fn width_of(rt: &impl Abort, delta: Option<u64>) -> BucketWidth<28> {
+pub(crate) fn width_of<const P: u32>(rt: &impl Abort, delta: Option<u64>) -> BucketWidth<P>
+    requires { is_layout P ≡ true }
+{
     match delta {
         Some(delta) => BucketWidth::Of(Delta::new(delta).expect(rt, "a width in range")),
         None => BucketWidth::MeanLength,
+    }
+}
+
+/// The settings of a job whose progress nobody is told.
+pub(crate) fn settings<const P: u32>(
+    rt: &impl Abort,
+    direction: Direction,
+    delta: Option<u64>,
+    workers: u32,
+) -> Settings<'static, P, Nobody>
+    requires { is_layout P ≡ true }
+{
+    Settings {
+        direction,
+        width: width_of(rt, delta),
+        workers: crew(rt, workers),
+        listener: &Nobody,
     }
 }
 

@@ -3,9 +3,9 @@ ghost use Rattle.std.specs.Prelude.{◌<◌, ◌≤◌, length};
 
 use crate::batches::{Case, crew, run_narrow, summary, width_of};
 use crate::graphs::{ALONE, DIAMOND, ONE, TWO, TWO_TEXT};
-use sp_device::{OfRead, UpTo, UpToWriter};
+use sp_device::{OfRead, Peeked, UpTo, UpToWriter};
 use sp_jobs::{BatchError, Summary, run_batch};
-use sp_network::{NetworkFault, Peeked};
+use sp_network::NetworkFault;
 use sp_text::{DimacsError, Kind};
 use std::process::Abort;
 use std::sync::Wait;
@@ -47,19 +47,13 @@ pub(crate) fn is_written_up_to(
 }
 
 #[test]
-fn failing_writer(rt: HostRuntime) -> Result<(), Fail> {
-    let case = Case {
+fn writers_that_fail_after_some_bytes(rt: HostRuntime) -> Result<(), Fail> {
+    let alone = Case {
         gr: ALONE,
         ss: ONE,
         room: 12,
     };
-    let ran = run_narrow(&rt, case, 1);
-    assert!(rt; ran.gave(Err(BatchError::Write), "p spt 1 1\nv "));
-    Ok(())
-}
-
-#[test]
-fn writers_that_fail_after_some_bytes(rt: HostRuntime) -> Result<(), Fail> {
+    assert!(rt; is_begun(&rt, alone, 1, "p spt 1 1\nv 1 0 0\ne 1\n"));
     let case = Case {
         gr: DIAMOND,
         ss: TWO,
@@ -78,7 +72,7 @@ fn writer_of_a_byte_a_call(rt: HostRuntime) -> Result<(), Fail> {
         &mut Peeked::new(OfRead::new(DIAMOND.as_bytes())),
         &mut OfRead::new(TWO.as_bytes()),
         &mut out,
-        width_of(&rt, Some(1)),
+        width_of::<28>(&rt, Some(1)),
         crew(&rt, 64),
     );
     assert!(rt; answer == summary(2, 0, 68) && out.taken() == TWO_TEXT.as_bytes());
@@ -100,7 +94,7 @@ fn is_fault(
         &mut Peeked::new(UpTo::failing(text)),
         &mut OfRead::new(ONE.as_bytes()),
         &mut out,
-        width_of(rt, Some(1)),
+        width_of::<28>(rt, Some(1)),
         crew(rt, 1),
     );
     answer == Err(BatchError::Gr(NetworkFault::Text(fault))) && out.taken().is_empty()

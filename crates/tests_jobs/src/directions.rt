@@ -1,11 +1,9 @@
 //! Each job in each direction of the diamond's arcs, from a packed file and from lines.
-use crate::batches::{crew, listed, summary, width_of};
+use crate::batches::{listed, settings, summary};
 use crate::graphs::{DIAMOND, TWO};
-use sp_device::{OfRead, UpToWriter};
-use sp_jobs::{
-    BatchError, Nobody, Settings, Summary, run_batch_told, run_matrix_told, run_nearest_told,
-};
-use sp_network::{Direction, Peeked};
+use sp_device::{OfRead, Peeked, UpToWriter};
+use sp_jobs::{BatchError, Summary, run_batch_told, run_matrix_told, run_nearest_told};
+use sp_network::Direction;
 use sp_pairs::run_pairs_told;
 use std::process::Abort;
 use std::sync::Wait;
@@ -73,21 +71,6 @@ struct Given<'t> {
     workers: u32,
 }
 
-impl<'t> Given<'t> {
-    fn device(self) -> Peeked<OfRead<&'t [u8]>> {
-        Peeked::new(OfRead::new(self.gr))
-    }
-
-    fn settings(self, rt: &impl Abort) -> Settings<'static, 28, Nobody> {
-        Settings {
-            direction: self.direction,
-            width: width_of(rt, None),
-            workers: crew(rt, self.workers),
-            listener: &Nobody,
-        }
-    }
-}
-
 // Whether this many answers were counted and exactly this text was written.
 fn is_whole(answer: Result<Summary, BatchError>, count: u64, out: &UpToWriter, text: &str) -> bool {
     answer == summary(count, 0, text.len() as u64) && out.taken() == text.as_bytes()
@@ -106,11 +89,11 @@ fn has_tree(
     let answer = run_batch_told(
         &rt,
         rt.alloc(),
-        &mut given.device(),
+        &mut Peeked::new(OfRead::new(given.gr)),
         sources,
         None,
         &mut out,
-        &given.settings(rt),
+        &settings::<28>(rt, given.direction, None, given.workers),
     );
     is_whole(answer, 1, &out, text)
 }
@@ -127,11 +110,11 @@ fn has_matrix(
     let answer = run_matrix_told(
         &rt,
         rt.alloc(),
-        &mut given.device(),
+        &mut Peeked::new(OfRead::new(given.gr)),
         sources,
         targets,
         &mut out,
-        &given.settings(rt),
+        &settings::<28>(rt, given.direction, None, given.workers),
     );
     is_whole(answer, 4, &out, text)
 }
@@ -145,10 +128,10 @@ fn has_pairs(
     let answer = run_pairs_told(
         &rt,
         rt.alloc(),
-        &mut given.device(),
+        &mut Peeked::new(OfRead::new(given.gr)),
         &mut OfRead::new(PAIRS.as_bytes()),
         &mut out,
-        &given.settings(rt),
+        &settings::<28>(rt, given.direction, None, given.workers),
     );
     is_whole(answer, 4, &out, text)
 }
@@ -165,42 +148,36 @@ fn has_forest(
     let answer = run_nearest_told(
         &rt,
         rt.alloc(),
-        &mut given.device(),
+        &mut Peeked::new(OfRead::new(given.gr)),
         sources,
         None,
         &mut out,
-        &given.settings(rt),
+        &settings::<28>(rt, given.direction, None, given.workers),
     );
     is_whole(answer, 1, &out, text)
 }
 
-// Whether each job gives exactly this for the file with this many workers.
-fn is_written_by(
-    rt: &(impl Abort + AllocGlobal + Threads + Wait + Sync),
-    gr: &[u8],
-    wanted: Wanted,
-    workers: u32,
-) -> bool {
-    let given = Given {
-        gr,
-        direction: wanted.direction,
-        workers,
-    };
-    has_tree(rt, given, wanted.ss, wanted.tree)
-        && has_matrix(rt, given, wanted.lines)
-        && has_pairs(rt, given, wanted.lines)
-        && has_forest(rt, given, wanted.forest)
-}
-
-// Whether each job does so with any number of workers.
+// Whether each job gives exactly this for the file with any number of workers.
 fn is_written(
     rt: &(impl Abort + AllocGlobal + Threads + Wait + Sync),
     gr: &[u8],
     wanted: Wanted,
 ) -> bool {
-    is_written_by(rt, gr, wanted, 1)
-        && is_written_by(rt, gr, wanted, 2)
-        && is_written_by(rt, gr, wanted, 64)
+    for workers in [1, 2, 64] {
+        let given = Given {
+            gr,
+            direction: wanted.direction,
+            workers,
+        };
+        if !has_tree(rt, given, wanted.ss, wanted.tree)
+            || !has_matrix(rt, given, wanted.lines)
+            || !has_pairs(rt, given, wanted.lines)
+            || !has_forest(rt, given, wanted.forest)
+        {
+            return false;
+        }
+    }
+    true
 }
 
 #[test]

@@ -14,6 +14,28 @@ pub(crate) const DIAMOND: &str = "p sp 4 5\na 1 2 3\na 1 3 3\na 2 4 2\na 3 4 2\n
 /// The diamond among so many vertices that several sources are answered at once.
 pub(crate) const WIDE: &str = "p sp 2000 5\na 1 2 3\na 1 3 3\na 2 4 2\na 3 4 2\na 1 4 6\n";
 
+/// A path of 18 vertices, whose last is the least distance too far from its first.
+pub(crate) const BEYOND: &str = "\
+p sp 18 17
+a 1 2 4294967295
+a 2 3 4294967295
+a 3 4 4294967295
+a 4 5 4294967295
+a 5 6 4294967295
+a 6 7 4294967295
+a 7 8 4294967295
+a 8 9 4294967295
+a 9 10 4294967295
+a 10 11 4294967295
+a 11 12 4294967295
+a 12 13 4294967295
+a 13 14 4294967295
+a 14 15 4294967295
+a 15 16 4294967295
+a 16 17 4294967295
+a 17 18 15
+";
+
 pub(crate) const ONE: &str = "p aux sp ss 1\ns 1\n";
 
 /// The sources 1 and 4.
@@ -47,7 +69,7 @@ fn is_answered(
         room: AMPLE,
     };
     for (delta, workers) in CREWS {
-        if !run(rt, case, width_of(rt, delta), workers).gave(answer, text) {
+        if !run::<28>(rt, case, width_of(rt, delta), workers).gave(answer, text) {
             return false;
         }
     }

@@ -1,5 +1,13 @@
-//! Tests of jobs from bytes to bytes, batches, matrices, forests and pairs, and of a forest's file, through the public calls.
+//! Tests of jobs from bytes to bytes, batches, matrices, forests and pairs, of a forest's file, and of the program in memory, with
+//! devices that fail and output files. All go through the public calls. `tests/commands.py` compares what the program writes when
+//! no device fails.
 #![tactic(auto)]
+
+mod memory;
+mod stored;
+
+pub use memory::{KeptFile, Memory};
+pub use stored::StoredFile;
 
 #[cfg(test)]
 mod batches;
@@ -7,6 +15,8 @@ mod batches;
 mod devices;
 #[cfg(test)]
 mod directions;
+#[cfg(test)]
+mod faults;
 #[cfg(test)]
 mod files;
 #[cfg(test)]
@@ -19,5 +29,11 @@ mod matrix;
 mod meeting;
 #[cfg(test)]
 mod nearest;
+#[cfg(test)]
+mod outputs;
+#[cfg(test)]
+mod shelf;
+#[cfg(test)]
+mod streams;
 #[cfg(test)]
 mod threads;

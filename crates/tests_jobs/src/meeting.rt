@@ -5,7 +5,7 @@ use crate::batches::{crew, summary};
 use crate::threads::count_processors;
 use sp_device::{UpToWriter, Write};
 use sp_jobs::{
-    Asked, BatchError, LEAST_ITEMS, Nobody, Progress, Question, Summary, answer_sources,
+    Assignment, BatchError, LEAST_ITEMS, Nobody, Progress, Question, Summary, answer_sources,
 };
 use sp_word::Workers;
 use std::alloc::{AllocError, Global};
@@ -28,19 +28,6 @@ struct Meeting {
 }
 
 impl Meeting {
-    fn new(first: u64, wanted: u64) -> Meeting {
-        Meeting {
-            first,
-            wanted,
-            begun: AtomicU64::new(0),
-            met: AtomicU64::new(0),
-        }
-    }
-
-    fn met(&self) -> u64 {
-        self.met.load(Ordering::SeqCst)
-    }
-
     fn meet(&self) {
         let begun = self.begun.fetch_add(1, Ordering::SeqCst);
         if begun < self.first || begun >= self.wanted {
@@ -102,8 +89,13 @@ fn do_meet(
         .saturating_sub(at_once)
         .checked_rem(at_once)
         .unwrap_or(0);
-    let meeting = Meeting::new(over, over.saturating_add(at_once));
-    let asked = Asked {
+    let meeting = Meeting {
+        first: over,
+        wanted: over.saturating_add(at_once),
+        begun: AtomicU64::new(0),
+        met: AtomicU64::new(0),
+    };
+    let asked = Assignment {
         sources,
         count: sources.len(),
         items: LEAST_ITEMS,
@@ -112,27 +104,20 @@ fn do_meet(
     };
     let mut out = UpToWriter::new(rt.alloc(), 0, 1);
     let answer = answer_sources(rt, rt.alloc(), &meeting, &asked, &mut out);
-    answer == summary(count, 0, 0) && meeting.met() == at_once
+    answer == summary(count, 0, 0) && meeting.met.load(Ordering::SeqCst) == at_once
 }
 
-// Two sources are found at once, by 2 workers and by 64.
+// Two sources are found at once, and then groups of nine, by 2 workers and by 64.
 #[test]
-fn workers_meet_at_two_sources(rt: HostRuntime) -> Result<(), Fail> {
+fn workers_meet(rt: HostRuntime) -> Result<(), Fail> {
+    let nine = [1, 700, 1, 2951, 2000, 2950, 700, 2951, 3];
     for workers in [2, 64] {
         assert!(rt;
             do_meet(&rt, &[1, 4], crew(&rt, workers)),
             "{workers} workers did not meet"
         );
-    }
-    Ok(())
-}
-
-#[test]
-fn workers_meet_at_nine_sources(rt: HostRuntime) -> Result<(), Fail> {
-    let sources = [1, 700, 1, 2951, 2000, 2950, 700, 2951, 3];
-    for workers in [2, 64] {
         assert!(rt;
-            do_meet(&rt, &sources, crew(&rt, workers)),
+            do_meet(&rt, &nine, crew(&rt, workers)),
             "{workers} workers did not meet"
         );
     }

@@ -118,28 +118,16 @@ fn starts_threads<R: Files + AllocGlobal + Threads + Wait + Sync + Abort>(
     count_processors(rt) == 1 || is_shared(rt, case, 2, &want) && is_shared(rt, case, 64, &want)
 }
 
-// One source of a large graph.
+// One source of a large graph, and nine sources of a graph that is too small for several threads at one source.
 #[test]
-fn one_source_starts_threads(rt: HostRuntime) -> Result<(), Fail> {
-    let gr = ring(rt.alloc())?;
-    let case = Case {
-        gr: &gr,
-        ss: ONE,
-        room: AMPLE,
-    };
-    assert!(rt; starts_threads(&rt, case));
-    Ok(())
-}
-
-// Nine sources of a graph that is too small for several threads at one source.
-#[test]
-fn nine_sources_start_threads(rt: HostRuntime) -> Result<(), Fail> {
-    let gr = town(rt.alloc())?;
-    let case = Case {
-        gr: &gr,
-        ss: NINE,
-        room: AMPLE,
-    };
-    assert!(rt; starts_threads(&rt, case));
+fn runs_start_threads(rt: HostRuntime) -> Result<(), Fail> {
+    for (gr, ss) in [(ring(rt.alloc())?, ONE), (town(rt.alloc())?, NINE)] {
+        let case = Case {
+            gr: &gr,
+            ss,
+            room: AMPLE,
+        };
+        assert!(rt; starts_threads(&rt, case));
+    }
     Ok(())
 }

@@ -4,7 +4,7 @@ ghost use Rattle.sp_word.specs.Word.{is_layout, max_pred};
 
 use crate::runs::{run_by_team, same};
 use sp_graph::Graph;
-use sp_plain::{Answer, GraphKind, Random, plain_tree, random_graph};
+use sp_judge::{Answer, GraphKind, Random, plain_tree, random_graph};
 use sp_word::Word;
 use std::alloc::AllocError;
 use std::process::Abort;

@@ -2,8 +2,8 @@
 
 mod nearest;
 mod plain;
+mod pool;
 mod random;
-mod rooms;
 mod runs;
 mod targets;
 mod within;

@@ -4,8 +4,8 @@ ghost use Rattle.std.specs.Prelude.{◌≡◌, true};
 ghost use Rattle.sp_word.specs.Word.{is_layout};
 
 use crate::runs::{run_by_team, same};
+use sp_judge::{GraphKind, Random, plain_tree, random_graph};
 use sp_phase::RunError;
-use sp_plain::{GraphKind, Random, plain_tree, random_graph};
 use sp_word::Word;
 use std::process::Abort;
 use std::sync::Wait;

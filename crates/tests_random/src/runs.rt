@@ -4,8 +4,8 @@ ghost use Rattle.sp_word.specs.Word.{is_layout, max_pred};
 
 use sp_files::Tree;
 use sp_graph::Graph;
+use sp_judge::Answer;
 use sp_phase::{RunError, run_source_with};
-use sp_plain::Answer;
 use sp_rounds::OpenGate;
 use sp_team::Team;
 use sp_word::{Delta, Meter, Workers};

@@ -4,7 +4,7 @@ ghost use Rattle.sp_word.specs.Word.{is_layout, max_pred};
 
 use crate::runs::{run, run_by_team, same};
 use sp_graph::Graph;
-use sp_plain::{Answer, Random, plain_tree};
+use sp_judge::{Answer, Random, plain_tree};
 use sp_word::Word;
 use std::alloc::{AllocError, Global};
 use std::process::Abort;

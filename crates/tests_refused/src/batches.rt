@@ -4,12 +4,13 @@ ghost use Rattle.sp_jobs.specs.Listing.{IsNumbered};
 
 use crate::report::Ending;
 use crate::sample::Sample;
+use sp_device::Peeked;
 use sp_dimacs::{OfRead, Write};
 use sp_jobs::{
     BatchError, BucketWidth, Listing, Nobody, Settings, Summary, run_batch, run_matrix_told,
     run_nearest_told,
 };
-use sp_network::{Direction, NetworkFault, Peeked};
+use sp_network::{Direction, NetworkFault};
 use sp_packed::PackedKind;
 use sp_pairs::run_pairs;
 use sp_text::Kind;

@@ -5,7 +5,7 @@ use sp_device::Write;
 use sp_graph::Graph;
 use sp_phase::{run_pair, run_source_with};
 use sp_rounds::OpenGate;
-use sp_run::{PairAnswer, Query, run_by_team, run_source, run_targets};
+use sp_run::{PairAnswer, TargetsQuestion, run_by_team, run_source, run_targets};
 use sp_word::{Meter, Team, Workers};
 use std::io;
 use std::sync::Wait;
@@ -116,7 +116,7 @@ pub fn call_run_targets<R: AllocGlobal + Print + Threads + Wait + Sync>(
         delta: sample.delta(),
         workers,
     };
-    let query = Query {
+    let query = TargetsQuestion {
         source: 1,
         targets: &[graph.n(), 1],
     };

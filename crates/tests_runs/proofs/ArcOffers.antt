@@ -5,7 +5,7 @@ use Rattle.sp_word.specs.Word.{Word, Pair, IsPair}
 use Rattle.sp_paths.specs.declared.arc.Arc.{Arc}
 use Rattle.sp_paths.specs.Paths.{Graph, HasArc, HasWalkBy, IsLawful}
 use Rattle.sp_offer.specs.Story.{Knowledge}
-use Rattle.sp_phase.specs.Progress.{Progress, IsUnspent}
+use Rattle.sp_phase.specs.Progress.{RunProgress, IsUnspent}
 use Rattle.sp_phase.specs.Settling.{IsTold, IsToldBy}
 use Rattle.sp_paths.proofs.Walks.{walk_by, walk_none}
 
@@ -24,5 +24,5 @@ some_of None Q h = absurd h
 some_of (Some x) Q h = refl
 
 -- a run that tells a bucket isn't spent
-pub told_unspent : (P : ℕ) (bucket : Option ℕ) (run : Progress) → IsToldBy P bucket run → IsUnspent run
+pub told_unspent : (P : ℕ) (bucket : Option ℕ) (run : RunProgress) → IsToldBy P bucket run → IsUnspent run
 told_unspent P bucket run told = some_of run.caller (IsTold P run.stage bucket) told

@@ -2,8 +2,8 @@
 ghost use Rattle.std.specs.Prelude.{◌≤◌, length, All};
 ghost use Rattle.sp_paths.specs.Paths.{IsArc};
 
+use sp_judge::{Scan, open_tails, scan_arcs};
 use sp_paths::Arc;
-use sp_scan::{Scan, open_tails, scan_arcs};
 use sp_word::Word;
 use std::alloc::AllocError;
 use std::test::Fail;

@@ -1,6 +1,6 @@
 //! The plain program.
 
-use sp_plain::{Answer, plain_tree};
+use sp_judge::{Answer, plain_tree};
 use std::process::Abort;
 use std::test::Fail;
 use tests_samples::{DIAMOND, Triple, graph_of, long_path};

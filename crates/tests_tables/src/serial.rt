@@ -1,6 +1,6 @@
 //! A run on the calling thread alone.
 
-use sp_serial::{Run, Until, words_alone};
+use sp_serial::{RunRequest, Until, words_alone};
 use sp_word::Word;
 use std::test::Fail;
 use tests_samples::{DIAMOND, graph_of};
@@ -15,7 +15,7 @@ fn diamond(rt: HostRuntime) -> Result<(), Fail> {
         Word::pack(3, 1),
         Word::pack(5, 2),
     ];
-    let run = Run {
+    let run = RunRequest {
         sources: &[1],
         until: Until::All,
     };

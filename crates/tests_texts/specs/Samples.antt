@@ -3,7 +3,7 @@ use Rattle.std.specs.Prelude.{◌≡◌, ℕ, true, false, List, [], ◌∷◌, 
 use Rattle.sp_text.specs.declared.formats.Top.TheVariants.{Number, Vertex, Dist, Problem}
 use Rattle.sp_text.specs.declared.formats.Ranges.{Ranges}
 use Rattle.sp_text.specs.Formats.{Format, field}
-use Rattle.sp_text.specs.Text.{Item}
+use Rattle.sp_text.specs.Text.{ItemLine}
 
 -- the problem line `p sp N M`, M lines `a U V W`, and lines `i V D P` with a fresh V
 abbrev pub sample : Format
@@ -38,9 +38,9 @@ abbrev pub usual : Ranges
 usual = record { vertex = 268435454; dist = 68719476734 }
 
 -- the place of an item's form, and its numbers
-abbrev pub entry_of : Item → ℕ × ℕ × ℕ × ℕ
+abbrev pub entry_of : ItemLine → ℕ × ℕ × ℕ × ℕ
 entry_of item = (item.kind, slice_index item.numbers 0, slice_index item.numbers 1, slice_index item.numbers 2)
 
 -- the entries are the items, each as the place of its form and its numbers
-abbrev pub AreEntries : List Item → List (ℕ × ℕ × ℕ × ℕ) → Type 0
+abbrev pub AreEntries : List ItemLine → List (ℕ × ℕ × ℕ × ℕ) → Type 0
 AreEntries items entries = entries ≡ map entry_of items

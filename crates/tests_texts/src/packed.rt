@@ -1,5 +1,5 @@
 mod cut;
+mod diamond;
 mod examples;
 mod judged;
-mod words;
 mod written;

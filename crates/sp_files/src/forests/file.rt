@@ -1,5 +1,5 @@
 //! What a forest's file holds.
-use sp_forest::Forest;
+use sp_answer::Forest;
 
 /// What a forest's file holds: a forest, and the number of sources that the first line tells. The file needn't be one that was
 /// written of a run, so the forest may have another number of rows without a predecessor.

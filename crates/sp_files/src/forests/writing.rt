@@ -1,30 +1,15 @@
 //! Forests that are written to a device.
 ghost use Rattle.std.specs.Prelude.{◌++◌, ◌≡◌, ◌≤◌, ◌+◌, length};
-ghost use Rattle.std.specs.List.{flat_map};
-ghost use Rattle.sp_device.specs.Printing.{Sends, Finished as Written, Counted};
+ghost use Rattle.sp_device.specs.Printing.{Finished as Written, Counted};
 ghost use Rattle.sp_files.specs.Sending.{Begins};
-ghost use Rattle.sp_files.specs.ForestText.{problem_text, reached_text, row_text, is_first, source_count, forest_text, no_forest_text};
+ghost use Rattle.sp_files.specs.ForestText.{problem_text, is_first, source_count, forest_text, no_forest_text};
 
-use crate::common_lines::{LINE_ROOM, write_end};
-use sp_device::{Block, Printer, Write, WriteFault, finish, make_room};
-use sp_forest::Forest;
+use crate::common_lines::LINE_ROOM;
+use crate::pages::write_rows;
+use sp_answer::Forest;
+use sp_device::{Block, Printer, Write, WriteFault, finish};
 use sp_text::push_number;
 use sp_word::Word;
-
-fn push_row<const P: u32>(block: &mut Block, vertex: u32, word: Word<P>, root: u32)
-    requires { length block.old + LINE_ROOM ≤ 8192 }
-    ensures { block.new ≡ block.old ++ reached_text vertex word.entry root }
-{
-    let (Some(dist), Some(pred)) = (word.dist(), word.pred()) else {
-        return;
-    };
-    block.push(b"v");
-    push_number(block, vertex as u64);
-    push_number(block, dist);
-    push_number(block, pred as u64);
-    push_number(block, root as u64);
-    block.push(b"\n");
-}
 
 #[tactic(auto, unfolding(crate::specs::ForestText::no_forest_text))]
 fn push_far(block: &mut Block, vertex: u32)
@@ -56,33 +41,6 @@ fn count_sources<const P: u32>(rows: &[(u32, Word<P>, u32)]) -> u64
     count
 }
 
-fn send_row<const P: u32, W: Write>(
-    out: &mut W,
-    printer: &mut Printer,
-    vertex: u32,
-    word: Word<P>,
-    root: u32,
-)
-    ensures { Sends W.Write (reached_text vertex word.entry root)
-        out.old printer.old out.new printer.new }
-{
-    make_room(out, printer, LINE_ROOM);
-    push_row(&mut printer.block, vertex, word, root);
-}
-
-// Sends the lines of rows, one after the other.
-fn send_rows<const P: u32, W: Write>(
-    out: &mut W,
-    printer: &mut Printer,
-    rows: &[(u32, Word<P>, u32)],
-)
-    ensures { Sends W.Write (flat_map row_text rows.now) out.old printer.old out.new printer.new }
-{
-    for (vertex, word, root) in rows {
-        send_row(out, printer, *vertex, *word, *root);
-    }
-}
-
 // Returns a printer that sends the problem line of a forest first.
 fn begin_forest<const P: u32>(forest: &Forest<P>) -> Printer
     ensures { Begins (problem_text forest.now.n (source_count forest.now.rows)) result }
@@ -105,9 +63,8 @@ pub fn write_forest<const P: u32, W: Write>(
     ensures written { Written W.Write (forest_text forest.now) out.old result out.new }
     ensures passed { Counted W.Write out.old result out.new }
 {
-    let mut printer = begin_forest(forest);
-    send_rows(out, &mut printer, forest.rows());
-    write_end(out, printer, forest.rows().len())
+    let printer = begin_forest(forest);
+    write_rows(out, printer, forest.rows(), forest.rows().len())
 }
 
 /// Writes the line `x V` of a vertex that is too far from all sources, and returns its number of bytes.

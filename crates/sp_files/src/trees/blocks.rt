@@ -12,7 +12,7 @@ use crate::reading::TreeReader;
 use crate::trees::stream::{feed_block, is_over};
 use sp_answer::Tree;
 use sp_device::{Failed, Read};
-use sp_dimacs::Piece;
+use sp_dimacs::ReadBuffer;
 use sp_text::DimacsError;
 use std::alloc::Global;
 
@@ -21,7 +21,7 @@ use std::alloc::Global;
 #[derive(Drop)]
 pub struct TreeBlocks<const P: u32> {
     alloc: Global,
-    piece: Piece,
+    piece: ReadBuffer,
     /// The number of the lines of the trees that were returned.
     lines: u64,
     spent: Option<DimacsError>,
@@ -47,7 +47,7 @@ impl<const P: u32> TreeBlocks<P> {
     {
         TreeBlocks {
             alloc,
-            piece: Piece::new(),
+            piece: ReadBuffer::new(),
             lines: 0,
             spent: None,
         }

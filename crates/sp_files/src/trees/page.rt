@@ -1,10 +1,9 @@
 //! A page: bytes at whose end the lines of some rows stand.
 ghost use Rattle.std.specs.Prelude.{◌≡◌, ◌+◌, ◌<◌, ◌≤◌, ◌^◌, [], ℕ, List, length, drop, vec_len, IfOk};
-ghost use Rattle.std.specs.List.{flat_map};
-ghost use Rattle.sp_answer.specs.Table.{rows_from};
-ghost use Rattle.sp_files.specs.TreeText.{row_text};
+ghost use Rattle.sp_files.specs.TreeText.{words_text};
 
-use crate::trees::backward::{ROW_ROOM, put_words};
+use crate::pages::put_rows;
+use crate::rows::{Numbered, ROW_ROOM};
 use sp_word::Word;
 use std::alloc::{AllocError, Global};
 use std::marker::Model;
@@ -25,13 +24,13 @@ impl Model for Page {
 
     ghost view = { λ page. drop page.start page.bytes.items };
 
-    ghost invariant = { λ page. (vec_len page.bytes ≡ 737280)
+    ghost invariant = { λ page. (vec_len page.bytes ≡ 917504)
         × (page.start ≤ vec_len page.bytes) };
 }
 
 // Returns bytes for the lines of the greatest number of rows.
 fn room(alloc: Global) -> Result<Vec<u8>, AllocError>
-    ensures { IfOk result (λ bytes. vec_len bytes ≡ 737280) }
+    ensures { IfOk result (λ bytes. vec_len bytes ≡ 917504) }
 {
     vec![in alloc; 0; MOST_ROWS * ROW_ROOM]
 }
@@ -57,8 +56,12 @@ impl Page {
     pub(crate) fn fill<const P: u32>(&mut self, first: u32, words: &[Word<P>])
         requires numbered { first + length words.now < 2 ^ 32 }
         requires few { length words.now ≤ 16384 }
-        ensures { self.new ≡ flat_map row_text (rows_from first words.now) }
+        ensures { self.new ≡ words_text first words.now }
     {
-        self.start = put_words(first, words, &mut self.bytes);
+        let words = Numbered {
+            first,
+            items: words,
+        };
+        self.start = put_rows(words, &mut self.bytes);
     }
 }

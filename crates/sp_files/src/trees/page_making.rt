@@ -1,8 +1,7 @@
 //! The lines of words, made by several threads, each of which fills a page.
 ghost use Rattle.std.specs.Prelude.{◌≡◌, ◌+◌, ◌*◌, ◌<◌, ◌≤◌, ◌^◌, length};
-ghost use Rattle.std.specs.List.{concat, flat_map};
-ghost use Rattle.sp_answer.specs.Table.{rows_from};
-ghost use Rattle.sp_files.specs.TreeText.{row_text};
+ghost use Rattle.std.specs.List.{concat};
+ghost use Rattle.sp_files.specs.TreeText.{words_text};
 ghost use denote.Param.Send.{IsSync};
 
 use crate::trees::page::{MOST_ROWS, Page};
@@ -32,7 +31,7 @@ pub(crate) fn make_pages<R: Threads + Sync, const P: u32>(
     requires numbered { first + length words.now < 2 ^ 32 }
     requires room { length words.now ≤ length pages.old * 16384 }
     ensures size { length pages.new ≡ length pages.old }
-    ensures text { concat pages.new ≡ flat_map row_text (rows_from first words.now) }
+    ensures text { concat pages.new ≡ words_text first words.now }
 {
     if pages.is_empty() {
         return;
@@ -51,13 +50,13 @@ pub(crate) fn make_pages<R: Threads + Sync, const P: u32>(
             requires { (first + length group.now < 2 ^ 32) × (length group.now ≤ 16384)
                 × (length left.now ≡ 1) }
             ensures { (length left.exit.now ≡ 1)
-                × (concat left.exit.now ≡ flat_map row_text (rows_from first group.entry.now)) }
+                × (concat left.exit.now ≡ words_text first group.entry.now) }
         { left[0].fill(first, group) },
         &mut ||
             requires { IsSync R.row × (next + length later.now < 2 ^ 32)
                 × (length later.now ≤ length right.now * 16384) }
             ensures { (length right.exit.now ≡ length right.entry.now)
-                × (concat right.exit.now ≡ flat_map row_text (rows_from next later.entry.now)) }
+                × (concat right.exit.now ≡ words_text next later.entry.now) }
         { make_pages(rt, next, later, right) },
     );
 }

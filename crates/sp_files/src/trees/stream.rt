@@ -8,13 +8,13 @@ ghost use Rattle.sp_files.specs.Stream.{stream, IsShort, IsLookedAt, BlockFed};
 use crate::reading::TreeReader;
 use crate::trees::block_state::{BlockState, run_of};
 use sp_device::{Failed, Read};
-use sp_dimacs::Piece;
+use sp_dimacs::ReadBuffer;
 use sp_text::DimacsError;
 
 /// Feeds the reader of a tree the bytes of the next block, or all bytes that are left.
 pub fn feed_block<const P: u32, R: Read>(
     reader: &mut R,
-    piece: &mut Piece,
+    piece: &mut ReadBuffer,
     tree: &mut TreeReader<P>,
 ) -> Result<(), DimacsError>
     ensures fed { IsShort R.Read (stream piece.old reader.old) → IsBehindFile tree_form [] tree.old
@@ -45,7 +45,7 @@ pub fn feed_block<const P: u32, R: Read>(
 
 /// Returns whether no bytes are left.
 #[tactic(auto, using(crate::proofs::LeftBytes::one_waits, crate::proofs::LeftBytes::one_came))]
-pub fn is_over<R: Read>(reader: &mut R, piece: &mut Piece) -> Result<bool, Failed>
+pub fn is_over<R: Read>(reader: &mut R, piece: &mut ReadBuffer) -> Result<bool, Failed>
     ensures looked { IsShort R.Read (stream piece.old reader.old)
         → IsLookedAt R.Read (stream piece.old reader.old)
         result (stream piece.new reader.new) }

@@ -1,16 +1,15 @@
 //! The lines of a tree that is given as the words of its vertices, made by several workers, while the calling thread writes them.
-ghost use Rattle.std.specs.Prelude.{◌≡◌, ◌+◌, ◌-◌, ◌*◌, ◌<◌, ◌≤◌, ◌^◌, [], length, vec_len, IfOk};
-ghost use Rattle.std.specs.List.{concat, flat_map};
+ghost use Rattle.std.specs.Prelude.{◌≡◌, ◌+◌, ◌*◌, ◌<◌, ◌≤◌, ◌^◌, [], length, vec_len, IfOk};
+ghost use Rattle.std.specs.List.{concat};
 ghost use Rattle.sp_device.specs.Printing.{Sends, Finished as Written, Counted};
-ghost use Rattle.sp_answer.specs.Table.{rows_from};
-ghost use Rattle.sp_files.specs.TreeText.{row_text, tree_text};
+ghost use Rattle.sp_files.specs.TreeText.{words_text, tree_text};
 ghost use denote.Param.Send.{IsSync};
 
 use crate::common_lines::write_end;
+use crate::rows::{Numbered, RowSource, words_of};
 use crate::trees::page::{MOST_ROWS, Page};
 use crate::trees::page_making::make_pages;
-use crate::trees::word_pages::write_words_in_pages;
-use crate::trees::writing::begin_tree;
+use crate::trees::writing::{begin_tree, write_words_in_pages};
 use sp_answer::WordTree;
 use sp_device::{Printer, Write, WriteFault, print_text};
 use sp_word::{Word, Workers};
@@ -83,26 +82,25 @@ fn send_and_make<R: Threads + Sync, const P: u32, W: Write>(
     rt: &R,
     out: &mut W,
     printer: &mut Printer,
-    first: u32,
-    words: &[Word<P>],
+    words: Numbered<Word<P>>,
     sets: &mut Sets,
 )
-    requires numbered { first + length words.now < 2 ^ 32 }
-    requires room { length words.now ≤ vec_len sets.old.spare * 16384 }
+    requires { length words.items.now ≤ vec_len sets.old.spare * 16384 }
     ensures sends { Sends W.Write (concat sets.old.ready.items)
         out.old printer.old out.new printer.new }
-    ensures made { concat sets.new.ready.items ≡ flat_map row_text (rows_from first words.now) }
+    ensures made { concat sets.new.ready.items
+        ≡ words_text words.entry.first words.entry.items.now }
     ensures ready { vec_len sets.new.ready ≡ vec_len sets.old.spare }
     ensures spare { vec_len sets.new.spare ≡ vec_len sets.old.ready }
 {
     let ready = &sets.ready;
     let spare = &mut sets.spare;
     let mut make = ||
-        requires { IsSync R.row × (first + length words.now < 2 ^ 32)
-            × (length words.now ≤ vec_len spare.now * 16384) }
+        requires { IsSync R.row × (words.first + length words.items.now < 2 ^ 32)
+            × (length words.items.now ≤ vec_len spare.now * 16384) }
         ensures { (vec_len spare.exit.now ≡ vec_len spare.entry.now)
-            × (concat spare.exit.now.items ≡ flat_map row_text (rows_from first words.entry.now)) }
-    { make_pages(rt, first, words, spare) };
+            × (concat spare.exit.now.items ≡ words_text words.entry.first words.entry.items.now) }
+    { make_pages(rt, words.first, words.items, spare) };
     let mut send = ||
         ensures { Sends W.Write (concat ready.entry.now.items)
             out.entry.now printer.entry.now out.exit.now printer.exit.now }
@@ -121,28 +119,26 @@ fn round_size(words: usize, pages: usize) -> usize
     (words / 4).min(pages * MOST_ROWS).max(pages)
 }
 
-// Sends the lines of the vertices from 1 on, which have these words, page after page, while other threads make the next ones.
+// Sends the lines of words, page after page, while other threads make the next ones.
 fn send_words_by<R: Threads + Sync, const P: u32, W: Write>(
     rt: &R,
     out: &mut W,
     printer: &mut Printer,
-    words: &[Word<P>],
+    words: Numbered<Word<P>>,
     mut sets: Sets,
 )
-    requires numbered { length words.now < 2 ^ 32 - 1 }
     requires some { 1 ≤ vec_len sets.ready }
     requires few { vec_len sets.ready < 64 }
     requires same { vec_len sets.spare ≡ vec_len sets.ready }
     requires empty { concat sets.ready.items ≡ [] }
-    ensures { Sends W.Write (flat_map row_text (rows_from 1 words.now))
+    ensures { Sends W.Write (words_text words.entry.first words.entry.items.now)
         out.old printer.old out.new printer.new }
 {
-    let size = round_size(words.len(), sets.ready.len());
+    let size = round_size(words.count(), sets.ready.len());
     let mut rest = words;
-    while !rest.is_empty() {
-        let first = (words.len() - rest.len()) as u32 + 1;
-        let (group, later) = rest.split_at(size.min(rest.len()));
-        send_and_make(rt, out, printer, first, group, &mut sets);
+    while rest.count() > 0 {
+        let (group, later) = rest.parted(size.min(rest.count()));
+        send_and_make(rt, out, printer, group, &mut sets);
         rest = later;
     }
     send_made(out, printer, &sets.ready);
@@ -171,6 +167,6 @@ pub fn write_words_by<const P: u32, R: Threads + Sync, W: Write>(
         return write_words_in_pages(alloc, tree, out);
     };
     let mut printer = begin_tree(tree.n(), tree.source());
-    send_words_by(rt, out, &mut printer, tree.words(), sets);
+    send_words_by(rt, out, &mut printer, words_of(tree), sets);
     write_end(out, printer, tree.reached())
 }

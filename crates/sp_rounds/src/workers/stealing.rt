@@ -13,14 +13,12 @@ use crate::task::Round;
 use crate::workers::Done;
 use crate::workers::merge::{Worked, merge};
 use crate::workers::steps::try_task;
-use crossbeam_deque::{Steal, Stealer, Worker};
+use crossbeam_deque::{Stealer, Worker};
 use sp_offer::{Caller, Lawful, Lowering, OfferTable};
+use sp_team::steal;
 use sp_word::Workers;
 use std::alloc::{AllocError, Global};
 use std::thread::{Threads, join};
-
-/// How often a pass retries a deque that answers neither with a task nor that it is empty.
-const MOST_RETRIES: usize = 1000;
 
 /// The deques of a round: the workers' own, with the leader's last, and a thief's handle of each.
 #[derive(Drop)]
@@ -38,7 +36,7 @@ pub(crate) struct OpenDeques<'a> {
 
 /// What a worker starts with: its number, its own deque, its caller and its claimer.
 #[derive(Drop)]
-pub(crate) struct Start {
+pub(crate) struct WorkerStart {
     pub worker: u32,
     pub own: Worker<usize>,
     pub caller: Caller,
@@ -66,29 +64,12 @@ pub(crate) fn deal(alloc: Global, tasks: usize, workers: usize) -> Result<TaskDe
     Ok(TaskDeques { owners, stealers })
 }
 
-/// Steals a task from another worker.
-fn steal(stealer: &Stealer<usize>) -> Option<usize> {
-    for _ in 0..=MOST_RETRIES {
-        match stealer.steal() {
-            Steal::Success(number) => return Some(number),
-            Steal::Empty => return None,
-            Steal::Retry => {}
-        }
-    }
-    None
-}
-
 /// Returns a task from the worker's own deque, or else one of another worker, after one pass over all deques.
 fn next_task(own: &mut Worker<usize>, stealers: &[Stealer<usize>]) -> Option<usize> {
     if let Some(number) = own.pop() {
         return Some(number);
     }
-    for stealer in stealers {
-        if let Some(number) = steal(stealer) {
-            return Some(number);
-        }
-    }
-    None
+    steal(stealers)
 }
 
 /// Tries a task like `try_task`, for a number that a deque returned.
@@ -117,14 +98,14 @@ fn run_worker<M: Lowering, L: Lawful, G: Gate, const P: u32>(
     round: &Round<L, P>,
     gate: &G,
     stealers: &[Stealer<usize>],
-    start: Start,
+    start: WorkerStart,
 ) -> Done
     requires ready { IsReadyRound L.allows round.now }
     requires tokens { AreOf round.now.table.now.id round.now.claims.now start.caller start.claimer }
     ensures goes { GoesOn L.allows round.now (at_start start.caller start.claimer) (did result) }
     ensures started { result.started ≡ 1 }
 {
-    let Start {
+    let WorkerStart {
         worker,
         mut own,
         caller,
@@ -153,9 +134,9 @@ fn run_worker<M: Lowering, L: Lawful, G: Gate, const P: u32>(
 fn split_start<L: Lawful, const P: u32>(
     table: &OfferTable<L, P>,
     claims: &ClaimTable,
-    start: Start,
+    start: WorkerStart,
     own: Worker<usize>,
-) -> (Start, Start)
+) -> (WorkerStart, WorkerStart)
     requires slots { 0 < claims.now.words }
     requires tokens { AreOf table.now.id claims.now start.caller start.claimer }
     ensures first { (result.0.caller ≡ start.caller) × (result.0.claimer ≡ start.claimer) }
@@ -168,13 +149,13 @@ fn split_start<L: Lawful, const P: u32>(
     let Ok((claimer, other_claimer)) = claims.split(start.claimer) else {
         unreachable!()
     };
-    let first = Start {
+    let first = WorkerStart {
         worker: start.worker,
         own: start.own,
         caller,
         claimer,
     };
-    let second = Start {
+    let second = WorkerStart {
         worker: first.worker.saturating_add(1),
         own,
         caller: other_caller,
@@ -192,7 +173,14 @@ pub(crate) fn run_workers<
     L: Lawful + Send + Sync,
     G: Gate + Sync,
     const P: u32,
->(rt: &R, alloc: Global, round: &Round<L, P>, gate: &G, deques: OpenDeques, start: Start) -> Worked
+>(
+    rt: &R,
+    alloc: Global,
+    round: &Round<L, P>,
+    gate: &G,
+    deques: OpenDeques,
+    start: WorkerStart,
+) -> Worked
     requires ready { IsReadyRound L.allows round.now }
     requires slots { 0 < round.now.claims.now.words }
     requires tokens { AreOf round.now.table.now.id round.now.claims.now start.caller start.claimer }

@@ -5,7 +5,7 @@ ghost use Rattle.sp_word.specs.Word.{is_layout};
 use crate::near::plain::{answer, nearest_lengths, rows_within};
 use crate::near::runs::{compare_nearest, graph_of};
 use sp_graph::Graph;
-use sp_plain::Random;
+use sp_judge::Random;
 use sp_word::Word;
 use std::process::Abort;
 use std::sync::Wait;

@@ -2,8 +2,7 @@
 ghost use Rattle.std.specs.Prelude.{◌≡◌, ◌≤◌, true, IfOk, IfSome};
 ghost use Rattle.sp_word.specs.Word.{is_layout, max_dist};
 
-use sp_answer::{RunError, Tree};
-use sp_engine::{forest_of, part_of};
+use sp_answer::{RunError, Tree, forest_of, part_of};
 use sp_graph::Graph;
 use sp_run::{Forest, run_nearest, run_within};
 use sp_serial::ByCaller;

@@ -2,10 +2,9 @@
 ghost use Rattle.std.specs.Prelude.{◌≡◌, ◌≤◌, All};
 
 use crate::near::runs::graph_of;
-use sp_answer::{PairAnswer, RunError};
-use sp_engine::answers_of;
+use sp_answer::{PairAnswer, RunError, answers_of};
 use sp_graph::Graph;
-use sp_serial::{ByCaller, Room};
+use sp_serial::{ByCaller, SearchBuffers};
 use sp_word::Word;
 use std::process::Abort;
 use std::test::Fail;
@@ -66,8 +65,8 @@ fn some_end_is_no_vertex(rt: HostRuntime) -> Result<(), Fail> {
     Ok(())
 }
 
-// Whether the room tells these answers.
-fn tells(room: &mut Room<28>, source: u32, targets: &[u32], want: &[PairAnswer]) -> bool
+// Whether a search tells these answers.
+fn tells(room: &mut SearchBuffers<28>, source: u32, targets: &[u32], want: &[PairAnswer]) -> bool
     requires source { (1 ≤ source) × (source ≤ room.old.n) }
     requires targets { All (λ t. (1 ≤ t) × (t ≤ room.old.n)) targets.now }
     ensures { room.new ≡ room.old }
@@ -82,7 +81,7 @@ fn tells(room: &mut Room<28>, source: u32, targets: &[u32], want: &[PairAnswer])
 fn room_serves_source_after_source(rt: HostRuntime) -> Result<(), Fail> {
     let graph = graph_of(&rt, 4, &DIAMOND)?;
     assert!(rt; graph.n() == 4);
-    let mut room = Room::<28>::new(rt.alloc(), &graph)?;
+    let mut room = SearchBuffers::<28>::new(rt.alloc(), &graph)?;
     let near = PairAnswer::Found { dist: 5, pred: 2 };
     let own = PairAnswer::Found { dist: 0, pred: 0 };
     let first = tells(&mut room, 1, &[4, 1, 4], &[near, own, near]);

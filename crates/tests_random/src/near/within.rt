@@ -1,8 +1,7 @@
 //! Runs within a distance of one source.
 
 use crate::near::runs::{Row, compare_within, graph_of};
-use sp_answer::RunError;
-use sp_engine::part_of;
+use sp_answer::{RunError, part_of};
 use sp_run::run_within;
 use sp_serial::ByCaller;
 use sp_word::{Delta, Team, Workers};

@@ -3,8 +3,8 @@ ghost use Rattle.std.specs.Prelude.{◌≤◌};
 
 use super::{WIDE, WORKERS, crew, width};
 use sp_graph::Graph;
+use sp_judge::{Answer, GraphKind, Random, plain_tree, random_graph};
 use sp_phase::{RunError, run_pair, run_pair_with};
-use sp_plain::{Answer, GraphKind, Random, plain_tree, random_graph};
 use sp_rounds::Gate;
 use sp_word::Word;
 use std::alloc::AllocError;

@@ -4,9 +4,9 @@ ghost use Rattle.sp_phase.specs.Progress.{IsUnspent};
 
 use super::{WORKERS, crew, split, width};
 use sp_graph::Graph;
+use sp_judge::{GraphKind, Random, random_graph};
 use sp_offer::Caller;
 use sp_phase::{Run, RunError, Store};
-use sp_plain::{GraphKind, Random, random_graph};
 use sp_rounds::{Claimer, OpenGate};
 use sp_word::Word;
 use std::alloc::AllocError;

@@ -4,8 +4,8 @@ ghost use Rattle.std.specs.Prelude.{◌≤◌};
 use super::pairs::parts;
 use super::{WORKERS, crew, width};
 use sp_graph::Graph;
-use sp_plain::{Answer, GraphKind, Random, plain_tree, random_graph};
-use sp_run::{PairAnswer, Query, run_targets};
+use sp_judge::{Answer, GraphKind, Random, plain_tree, random_graph};
+use sp_run::{PairAnswer, TargetsQuestion, run_targets};
 use sp_word::{Meter, Team};
 use std::alloc::{AllocError, Global};
 use std::process::Abort;
@@ -34,7 +34,7 @@ fn tells(
 ) -> Result<bool, AllocError>
     requires { graph.now.n ≤ 10000 }
 {
-    let query = Query {
+    let query = TargetsQuestion {
         source: case.source,
         targets: case.targets,
     };

@@ -1,8 +1,8 @@
 //! A packed graph that is cut or changed anywhere.
 ghost use Rattle.std.specs.Prelude.{◌≤◌, ◌<◌, ◌^◌, length};
 
+use super::diamond::{DIAMOND, MOST_ARCS, bytes_of, read};
 use super::judged::fault_of;
-use super::words::{DIAMOND, MOST_ARCS, bytes_of, read};
 use sp_device::UpTo;
 use sp_packed::{PackedKind, read_packed};
 use std::alloc::{AllocError, Global};

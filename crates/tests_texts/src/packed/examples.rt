@@ -1,7 +1,7 @@
 //! The worked examples of faults.
 ghost use Rattle.std.specs.Prelude.{◌≤◌, ◌^◌, length};
 
-use super::words::{DIAMOND, bytes_of, packed, read, with_word};
+use super::diamond::{DIAMOND, bytes_of, packed, read, with_word};
 use sp_packed::{PackedFault, PackedField, PackedKind};
 use std::alloc::{AllocError, Global};
 use std::test::Fail;

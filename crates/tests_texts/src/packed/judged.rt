@@ -1,7 +1,7 @@
 //! The fault of a packed graph, by the rules for each word, one after the other.
 ghost use Rattle.std.specs.Prelude.{◌<◌, ◌^◌};
 
-use super::words::MOST_ARCS;
+use super::diamond::MOST_ARCS;
 use sp_packed::{PackedFault, PackedField, PackedKind};
 
 // The word at this place, or 0 where it isn't there.

@@ -1,7 +1,7 @@
 //! The packed text of the diamond.
 ghost use Rattle.std.specs.Prelude.{◌≤◌, ◌^◌, length};
 
-use super::words::{DIAMOND, MOST_ARCS, bytes_of, packed};
+use super::diamond::{DIAMOND, MOST_ARCS, bytes_of, packed};
 use sp_device::{UpTo, UpToWriter, WriteFault};
 use sp_graph::Graph;
 use sp_packed::{read_packed, write_packed};

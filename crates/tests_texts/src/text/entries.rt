@@ -3,7 +3,7 @@ ghost use Rattle.std.specs.Prelude.{◌≡◌, ◌==◌, ◌&&◌, ℕ, List, []
 ghost use Rattle.std.specs.List.{list_any};
 ghost use Rattle.sp_text.specs.Formats.{format_of};
 ghost use Rattle.tests_texts.specs.Samples.{sample, usual, AreEntries};
-ghost use Rattle.sp_text.specs.Text.{Item};
+ghost use Rattle.sp_text.specs.Text.{ItemLine};
 
 use sp_device::Read;
 use sp_text::{

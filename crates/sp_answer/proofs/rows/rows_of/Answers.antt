@@ -1,15 +1,9 @@
-use Rattle.std.proofs.Common.{refl}
-use Rattle.sp_word.specs.Word.{dist_of}
-use Rattle.sp_answer.proofs.RisingRows.{row_pushed, row_passed}
+use Rattle.std.proofs.Common.{ℕ, refl}
+use Rattle.sp_word.specs.Word.{Word}
+use Rattle.sp_answer.specs.Table.{row_of, rows_from}
+use Rattle.sp_answer.proofs.VertexRows.{row_taken}
 use Rattle.sp_answer.proofs.rows.rows_of.Goals as goal
-use Rattle.sp_answer.proofs.rows.rows_of.Goals.{then-is_reached+in_ok-push, else-is_reached}
 
 pub loop-place-preserved : goal.loop-place-preserved
 loop-place-preserved g c =
-    let words = c.args.words.now in
-    let i = c.loop-place.place in
-    let x = c.index-words-place.result in
-    elim c.if-is_reached.branch [
-      | then-is_reached+in_ok-push w ↦ rw w.rows-is (row_pushed g.row.P words i x c.loop-place.rows.items _ c.is_reached.result (dist_of x) c.loop-place-test.true c.index-words-place.is c.loop-place.invariant c.is_reached.ensures.range c.is_reached.ensures.test refl w.if-is_reached.true w.in_ok-push.ensures.items)
-      | else-is_reached w ↦ rw w.rows-is (row_passed g.row.P words i x c.loop-place.rows.items _ c.is_reached.result (dist_of x) c.loop-place-test.true c.index-words-place.is c.loop-place.invariant c.is_reached.ensures.range c.is_reached.ensures.test refl w.if-is_reached.false refl)
-    ]
+    row_taken (ℕ × Word) row_of rows_from (λ v. refl) (λ v w words. refl) g.row.P c.args.words.now c.loop-place.place c.index-words-place.result c.loop-place.rows.items c.push_reached.new.rows.items c.loop-place-test.true c.index-words-place.is c.loop-place.invariant c.in_ok-push_reached.ensures.rows c.in_ok-push_reached.ensures.range

@@ -1,6 +1,6 @@
 use Rattle.std.proofs.Common.{ap, sym, subst, arith, ◌∙◌}
 use Rattle.rayon.proofs.ToStd.{slice-AllZip}
-use Rattle.sp_forest.specs.ForestTable.{Row, table_of, root_of}
+use Rattle.sp_answer.specs.ForestTable.{Row, table_of, root_of}
 use Rattle.sp_cert.specs.Faults.{IsFirstOf, FaultAt, BreaksRoot}
 use Rattle.sp_cert.specs.ForestRows.{IsOwnRow}
 use Rattle.sp_cert.proofs.FirstSteps.{first_of_reduced}

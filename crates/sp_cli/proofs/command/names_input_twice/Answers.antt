@@ -6,7 +6,7 @@ use Rattle.sp_cli.proofs.command.names_input_twice.Goals.{then-sources, else-sou
 pub returns-then-targets : goal.returns-then-targets
 returns-then-targets g c = λ is.
     let named : c.args.graph.now ≡ codes "-" = search rules in
-    let paths = g.C.Answer.paths c.args.own.now in
+    let paths = g.C.GraphAnswer.paths c.args.own.now in
     elim c.if-sources.branch [
       | then-sources w ↦ with_sources c.args.graph.now paths named (c.is_input-sources.ensures w.if-sources.true)
       | else-sources w ↦ with_targets c.args.graph.now paths named (c.is_input-targets.ensures (search rules))
@@ -15,4 +15,4 @@ returns-then-targets g c = λ is.
 pub returns-else-targets : goal.returns-else-targets
 returns-else-targets g c = λ is.
     let named : c.args.graph.now ≡ codes "-" = search rules in
-    with_pairs c.args.graph.now (g.C.Answer.paths c.args.own.now) named (c.is_input-pairs.ensures is)
+    with_pairs c.args.graph.now (g.C.GraphAnswer.paths c.args.own.now) named (c.is_input-pairs.ensures is)

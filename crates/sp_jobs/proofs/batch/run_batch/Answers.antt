@@ -1,7 +1,7 @@
 use Rattle.std.proofs.Common.{None, refl}
 use Rattle.sp_dimacs.specs.Graph.{graph_of}
 use Rattle.sp_network.specs.Network.{directed}
-use Rattle.sp_network.specs.contracts.peeked.PeekedRead.TheImpl.{ghosts as peeked}
+use Rattle.sp_device.specs.contracts.peeked.PeekedRead.TheImpl.{ghosts as peeked}
 use Rattle.sp_network.specs.declared.directions.Direction.TheVariants.{AsGiven}
 use Rattle.sp_jobs.proofs.Files.{sources_spelled}
 use Rattle.sp_jobs.specs.Batch.{IsBatch}

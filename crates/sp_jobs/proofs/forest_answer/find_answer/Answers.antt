@@ -1,7 +1,7 @@
 use Rattle.std.proofs.Common.{◌≡◌, Err, rules}
 use Rattle.sp_answer.specs.declared.answer.RunError.TheVariants as run
-use Rattle.sp_forest.specs.ForestTable.{IsForestTable}
-use Rattle.sp_forest.specs.Nearest.{IsForestAnswer}
+use Rattle.sp_answer.specs.ForestTable.{IsForestTable}
+use Rattle.sp_answer.specs.Nearest.{IsForestAnswer}
 use Rattle.sp_jobs.proofs.CountedSources.{sources_counted}
 use Rattle.sp_jobs.proofs.SameNearest.{far_answer}
 use Rattle.sp_jobs.proofs.forest_answer.find_answer.Goals as goal

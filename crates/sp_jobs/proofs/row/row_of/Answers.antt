@@ -1,6 +1,6 @@
 use Rattle.std.proofs.Common.{◌<◌, length, arith}
 use Rattle.sp_word.specs.Word.{max_dist}
-use Rattle.sp_forest.proofs.TargetAnswers.{answer_at}
+use Rattle.sp_answer.proofs.TargetAnswers.{answer_at}
 use Rattle.sp_jobs.proofs.Lines.{lines_more}
 use Rattle.sp_jobs.proofs.row.row_of.Goals as goal
 

@@ -1,8 +1,8 @@
 use Rattle.std.proofs.Common.{ℕ, subst}
 use Rattle.sp_answer.specs.declared.answer.RunError.{RunError}
-use Rattle.sp_forest.specs.Nearest.{IsRefusal}
-use Rattle.sp_lists.specs.declared.answers.Told.TheVariants.{TooFar}
-use Rattle.sp_lists.specs.Near.{lists, IsForestIn}
+use Rattle.sp_answer.specs.Nearest.{IsRefusal}
+use Rattle.sp_lists.specs.declared.outcomes.Outcome.TheVariants.{TooFar}
+use Rattle.sp_lists.specs.ForestQuestion.{lists, IsForestIn}
 use Rattle.sp_lists.proofs.Forests.{far_told}
 use Rattle.sp_lists.proofs.forest.forest_by.Goals as goal
 

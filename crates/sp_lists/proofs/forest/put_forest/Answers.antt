@@ -2,10 +2,10 @@ use Rattle.std.proofs.Common.{◌≡◌, ◌≤◌, ◌-◌, ◌<◌, ◌∙◌,
 use Rattle.std.proofs.Math.Seq.{drop-length}
 use Rattle.sp_word.specs.Word.{Unreached, max_dist}
 use Rattle.sp_paths.specs.Paths.{IsVertex}
-use Rattle.sp_forest.specs.ForestTable.{ForestTable, Row, table_of}
+use Rattle.sp_answer.specs.ForestTable.{ForestTable, Row, table_of}
 use Rattle.sp_lists.specs.Matrix.{KeepsListFrom}
 use Rattle.sp_lists.specs.Blocks.{slices, AreCells, KeepsFrom}
-use Rattle.sp_lists.specs.Near.{lists, AreNoRoots, ArePutRoots}
+use Rattle.sp_lists.specs.ForestQuestion.{lists, AreNoRoots, ArePutRoots}
 use Rattle.sp_lists.proofs.RowCells.{rows_behind, forest_vertex_read, forest_row, cell_put, root_put, lists_put, no_roots_put}
 use Rattle.sp_lists.proofs.forest.put_forest.Goals as goal
 

@@ -1,7 +1,7 @@
 use Rattle.std.proofs.Common.{◌≤◌, length, drop}
-use Rattle.sp_forest.specs.ForestTable.{ForestTable, table_of}
+use Rattle.sp_answer.specs.ForestTable.{ForestTable, table_of}
 use Rattle.sp_lists.specs.Blocks.{slices, AreCells}
-use Rattle.sp_lists.specs.Near.{lists, KeepsListsFrom, ArePutRoots}
+use Rattle.sp_lists.specs.ForestQuestion.{lists, KeepsListsFrom, ArePutRoots}
 use Rattle.sp_lists.proofs.forest.put_forest.Given as goal
 
 abbrev pub invariant-rows : goal.invariant-rows

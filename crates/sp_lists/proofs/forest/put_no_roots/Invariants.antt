@@ -1,5 +1,5 @@
 use Rattle.sp_lists.specs.Matrix.{KeepsListFrom}
-use Rattle.sp_lists.specs.Near.{AreNoRoots}
+use Rattle.sp_lists.specs.ForestQuestion.{AreNoRoots}
 use Rattle.sp_lists.proofs.forest.put_no_roots.Given as goal
 
 abbrev pub invariant-loop-place : goal.invariant-loop-place

@@ -1,9 +1,9 @@
 use Rattle.std.proofs.Common.{◌≡◌, ◌-◌, ℕ}
 use Rattle.std.specs.Prelude.{slice_index}
 use Rattle.sp_paths.specs.Paths.{IsVertex, word_at}
-use Rattle.sp_forest.specs.Rooted.{root_at}
+use Rattle.sp_answer.specs.Rooted.{root_at}
 use Rattle.sp_lists.specs.Blocks.{slices, AreCells}
-use Rattle.sp_lists.specs.Near.{lists, KeepsListsFrom}
+use Rattle.sp_lists.specs.ForestQuestion.{lists, KeepsListsFrom}
 use Rattle.sp_lists.proofs.forest.put_rooted.Given as goal
 
 abbrev pub invariant-loop-place : goal.invariant-loop-place

@@ -1,10 +1,10 @@
 use Rattle.std.proofs.Common.{◌≡◌, ◌∙◌, ℕ, List, length, sym, ap, subst, arith}
 use Rattle.sp_word.specs.Word.{Word}
 use Rattle.sp_paths.specs.Paths.{word_at}
-use Rattle.sp_forest.specs.Roots.{FallsBack}
-use Rattle.sp_forest.specs.Nearest.{IsForestUpTo}
-use Rattle.sp_forest.specs.Rooted.{AreRoots}
-use Rattle.sp_forest.proofs.ForestAnswers.{law_of}
+use Rattle.sp_paths.specs.Roots.{FallsBack}
+use Rattle.sp_answer.specs.Nearest.{IsForestUpTo}
+use Rattle.sp_answer.specs.Rooted.{AreRoots}
+use Rattle.sp_answer.proofs.ForestAnswers.{law_of}
 use Rattle.sp_lists.proofs.Forests.{rooted}
 use Rattle.sp_lists.proofs.forest.run_forest.Goals as goal
 

@@ -1,6 +1,6 @@
 use Rattle.std.proofs.Common.{◌≡◌, ◌≤◌, ◌+◌, List, length, sym, subst}
 use Rattle.sp_answer.specs.declared.pair.PairAnswer.{PairAnswer}
-use Rattle.sp_forest.specs.Run.{AreAnswersFor}
+use Rattle.sp_answer.specs.Run.{AreAnswersFor}
 use Rattle.sp_lists.specs.Limits.{reach}
 use Rattle.sp_lists.proofs.Rows.{as_many, whole_row}
 use Rattle.sp_lists.proofs.matrix.row_at.Goals as goal

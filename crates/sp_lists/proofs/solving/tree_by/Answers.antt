@@ -3,8 +3,8 @@ use Rattle.std.specs.Prelude.{None, Some}
 use Rattle.sp_word.specs.Word.{Word, max_dist}
 use Rattle.sp_paths.specs.Paths.{IsFar, word_at}
 use Rattle.sp_answer.specs.declared.answer.RunError.{RunError}
-use Rattle.sp_forest.specs.Nearest.{IsForestUpTo, IsRefusal}
-use Rattle.sp_forest.proofs.OneForest.{forest_of_one_is_tree}
+use Rattle.sp_answer.specs.Nearest.{IsForestUpTo, IsRefusal}
+use Rattle.sp_paths.proofs.OneForest.{forest_of_one_is_tree}
 use Rattle.sp_lists.specs.Blocks.{slices, AreCells, KeepsOthers}
 use Rattle.sp_lists.proofs.solving.tree_by.Goals as goal
 

@@ -1,6 +1,6 @@
 use Rattle.std.proofs.Common.{sym, subst}
 use Rattle.sp_answer.specs.declared.pair.PairAnswer.{PairAnswer}
-use Rattle.sp_forest.specs.Run.{IsAnswerFor}
+use Rattle.sp_answer.specs.Run.{IsAnswerFor}
 use Rattle.sp_lists.specs.Limits.{reach}
 use Rattle.sp_lists.proofs.Rows.{one_answer}
 use Rattle.sp_lists.proofs.targets.find_target.Goals as goal

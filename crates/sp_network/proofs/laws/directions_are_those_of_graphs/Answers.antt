@@ -1,7 +1,7 @@
 use Rattle.std.proofs.Common.{refl}
 use Rattle.std.proofs.lemmas.List.Sorted.{IsPermutation-refl}
-use Rattle.sp_turned.specs.Turned.{turned}
-use Rattle.sp_turned.proofs.TurnedArcs.{with_turned_same}
+use Rattle.sp_network.specs.Turned.{turned}
+use Rattle.sp_network.proofs.TurnedArcs.{with_turned_same}
 use Rattle.sp_network.proofs.laws.directions_are_those_of_graphs.Goals as goal
 
 pub returns-clause-given : goal.returns-clause-given

@@ -2,7 +2,7 @@ use Rattle.std.proofs.Common.{◌≡◌, ◌<◌, length, arith}
 use Rattle.std.proofs.lemmas.Bool.Decides.{nat_tests}
 use Rattle.std.specs.Prelude.{slice_index}
 use Rattle.sp_word.specs.Word.{max_dist}
-use Rattle.sp_forest.proofs.TargetAnswers.{answer_at}
+use Rattle.sp_answer.proofs.TargetAnswers.{answer_at}
 use Rattle.sp_pairs.specs.Slots.{pair_at}
 use Rattle.sp_pairs.proofs.SlotSteps.{kept}
 use Rattle.sp_pairs.proofs.asking.keep_answer.Goals as goal

@@ -2,7 +2,7 @@ use Rattle.std.proofs.Common.{Err, refl}
 use Rattle.std.proofs.lemmas.Result.{err_from_is_err_and}
 use Rattle.sp_dimacs.specs.Graph.{graph_of}
 use Rattle.sp_network.specs.Network.{directed}
-use Rattle.sp_network.specs.contracts.peeked.PeekedRead.TheImpl.{ghosts as peeked}
+use Rattle.sp_device.specs.contracts.peeked.PeekedRead.TheImpl.{ghosts as peeked}
 use Rattle.sp_dimacs.specs.Pairs.{PairsRead}
 use Rattle.sp_jobs.specs.Network.{IsGraphRefused}
 use Rattle.sp_jobs.specs.Answered.{wrote_by}

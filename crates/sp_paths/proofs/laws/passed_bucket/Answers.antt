@@ -1,4 +1,4 @@
-use Rattle.sp_paths.proofs.TheoremProofs.{passed_is_settled, passed_is_pair}
+use Rattle.sp_paths.proofs.Settle.{passed_is_settled, passed_is_pair}
 use Rattle.sp_paths.proofs.laws.passed_bucket.Goals as goal
 
 pub returns-clause-settled : goal.returns-clause-settled

@@ -1,7 +1,7 @@
 use Rattle.std.proofs.Common.{ℕ, ◌<◌, ◌++◌, length, get_or, take, refl, sym, subst, ◌∙◌}
 use Rattle.std.specs.List.Sorted.{IsPermutation}
 use Rattle.sp_bins.specs.declared.entry.Entry.{Entry}
-use Rattle.sp_rounds.specs.Content.{Content}
+use Rattle.sp_rounds.specs.Content.{BucketsContent}
 use Rattle.sp_phase.proofs.LeaderHolds.{put_more, put_none}
 use Rattle.sp_phase.proofs.rounds.put_all.Goals as goal
 
@@ -21,7 +21,7 @@ loop-entry-preserved c =
 pub returns-in_err-put-clause-some : goal.returns-in_err-put-clause-some
 returns-in_err-put-clause-some c =
     let i : ℕ = c.loop-entry.entry-index in
-    let F : Content → Type 0 = λ b. IsPermutation (c.args.buckets.now.entries ++ take i c.args.entries.now) b.entries in
+    let F : BucketsContent → Type 0 = λ b. IsPermutation (c.args.buckets.now.entries ++ take i c.args.entries.now) b.entries in
     (i, subst F (sym c.in_err-put.ensures.refused) c.loop-entry.invariant.1)
 
 pub returns-clause-some : goal.returns-clause-some

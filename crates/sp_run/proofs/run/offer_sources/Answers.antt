@@ -1,7 +1,7 @@
 use Rattle.std.proofs.Common.{◌∙◌, ap}
 use Rattle.sp_word.specs.Word.{Word, lesser}
 use Rattle.sp_offer.specs.Story.{known_table}
-use Rattle.sp_run.proofs.NearRun.{one_source_more, offered_none}
+use Rattle.sp_run.proofs.RunFromAny.{one_source_more, offered_none}
 use Rattle.sp_run.proofs.run.offer_sources.Goals as goal
 
 pub loop-source-preserved : goal.loop-source-preserved

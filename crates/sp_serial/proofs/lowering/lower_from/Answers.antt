@@ -1,5 +1,5 @@
 use Rattle.sp_word.specs.Word.{max_dist}
-use Rattle.sp_plain.proofs.LoweredWalks.{lowered_any}
+use Rattle.sp_judge.proofs.LoweredWalks.{lowered_any}
 use Rattle.sp_serial.proofs.lowering.lower_from.Goals as goal
 
 pub returns-clause-table : goal.returns-clause-table

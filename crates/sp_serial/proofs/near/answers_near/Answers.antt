@@ -1,6 +1,6 @@
 use Rattle.std.proofs.Common.{rules}
 use Rattle.sp_word.specs.Word.{max_dist}
-use Rattle.sp_forest.proofs.TargetAnswers.{as_many}
+use Rattle.sp_answer.proofs.TargetAnswers.{as_many}
 use Rattle.sp_serial.proofs.near.answers_near.Goals as goal
 
 pub returns-in-Some-clause-size : goal.returns-in-Some-clause-size

@@ -11,8 +11,8 @@ use Rattle.sp_serial.proofs.part.tree_of.Goals as goal
 pub loop-vertex-preserved : goal.loop-vertex-preserved
 loop-vertex-preserved g c =
     let limit = c.args.limit in
-    let words = c.args.touched.now.words.items in
-    let reached = c.args.touched.now.reached.items in
+    let words = c.args.tracked.now.words.items in
+    let reached = c.args.tracked.now.reached.items in
     let i = c.loop-vertex.vertex-index in
     let list = c.deref-vertex-items.result.now in
     let listed = c.deref-vertex-items.ensures.value in

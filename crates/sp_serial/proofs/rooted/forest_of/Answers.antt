@@ -2,7 +2,7 @@ use Rattle.std.proofs.Common.{ℕ, ◌<◌, ◌≤◌, List, length, get_or, sub
 use Rattle.std.proofs.lemmas.Bool.{OnTrue_at}
 use Rattle.sp_word.specs.Word.{Word}
 use Rattle.sp_answer.specs.Table.{table_of}
-use Rattle.sp_forest.specs.Roots.{IsRoot}
+use Rattle.sp_paths.specs.Roots.{IsRoot}
 use Rattle.sp_serial.proofs.RootedRows.{rooted_all, rooted_more}
 use Rattle.sp_serial.proofs.rooted.forest_of.Goals as goal
 

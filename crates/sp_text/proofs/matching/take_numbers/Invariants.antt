@@ -1,5 +1,5 @@
 use Rattle.std.proofs.Common.{ℕ, ◌+◌, ◌≤◌, List, [], length}
-use Rattle.sp_text.specs.declared.matching.Spelled.{Spelled}
+use Rattle.sp_text.specs.declared.matching.FieldCheck.{FieldCheck}
 use Rattle.sp_text.specs.Lines.{fields_from}
 use Rattle.sp_text.specs.Text.{numbers}
 use Rattle.sp_text.specs.Matching.{Spells}
@@ -9,7 +9,7 @@ use Rattle.sp_text.proofs.matching.take_numbers.Given as goal
 abbrev pub invariant-loop-fields : goal.invariant-loop-fields
 invariant-loop-fields l = record {
   room : length l.values + length l.fields ≤ 4;
-  spells : (new : List ℕ) (result : Spelled) → Spells l.ranges l.problem l.fields (numbers l.fields (fields_from [] l.rest)) l.values new result → Spells l.ranges l.problem l.fn.fields (numbers l.fn.fields (fields_from [] l.fn.text)) l.fn.values new result;
+  spells : (new : List ℕ) (result : FieldCheck) → Spells l.ranges l.problem l.fields (numbers l.fields (fields_from [] l.rest)) l.values new result → Spells l.ranges l.problem l.fn.fields (numbers l.fn.fields (fields_from [] l.fn.text)) l.fn.values new result;
 }
 
 abbrev pub decreases-loop-fields : goal.decreases-loop-fields

@@ -1,4 +1,4 @@
-use Rattle.sp_network.specs.contracts.peeked.PeekedRead.TheImpl.{ghosts as peeked}
+use Rattle.sp_device.specs.contracts.peeked.PeekedRead.TheImpl.{ghosts as peeked}
 use Rattle.sp_tools.proofs.Texts.{graph_refused, graph_told}
 use Rattle.sp_tools.proofs.graphs.read_graph.Goals as goal
 

@@ -1,7 +1,7 @@
 use Rattle.std.proofs.Common.{ℕ, Option, refl, sym, subst}
 use Rattle.sp_paths.specs.Paths.{Graph}
-use Rattle.sp_lists.specs.declared.answers.Told.TheVariants.{NoGraph}
-use Rattle.sp_lists.specs.Near.{lists, IsForestOf}
+use Rattle.sp_lists.specs.declared.outcomes.Outcome.TheVariants.{NoGraph}
+use Rattle.sp_lists.specs.ForestQuestion.{lists, IsForestOf}
 use Rattle.spt_c.specs.KeptLists.{limit_of, IsForestOfKept}
 use Rattle.spt_c.proofs.exports.spt_graph_nearest.Goals as goal
 

@@ -1,6 +1,6 @@
 use Rattle.std.proofs.Common.{Option, Err, refl, sym, subst}
 use Rattle.sp_paths.specs.Paths.{Graph}
-use Rattle.sp_lists.specs.declared.answers.Told.TheVariants.{NoGraph}
+use Rattle.sp_lists.specs.declared.outcomes.Outcome.TheVariants.{NoGraph}
 use Rattle.spt_c.specs.Found.{IsFoundOfKept}
 use Rattle.spt_c.proofs.exports.spt_graph_pair.Goals as goal
 

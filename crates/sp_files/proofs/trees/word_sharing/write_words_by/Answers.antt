@@ -1,8 +1,9 @@
+use Rattle.sp_files.proofs.SentRows.{ends_behind}
 use Rattle.sp_files.proofs.WholeTexts.{tree_written, counted}
 use Rattle.sp_files.proofs.trees.word_sharing.write_words_by.Goals as goal
 
 pub returns-clause-written : goal.returns-clause-written
-returns-clause-written g c = tree_written c.args.tree.now c.n.ensures.n c.source.ensures.source c.words-2.ensures.rows c.reached.ensures.reached c.begin_tree-printer.ensures c.send_words_by.ensures c.write_end.ensures
+returns-clause-written g c = tree_written c.args.tree.now c.n.ensures.n c.source.ensures.source c.words_of.ensures c.reached.ensures.reached c.begin_tree-printer.ensures (ends_behind _ _ c.send_words_by.ensures c.write_end.ensures)
 
 pub returns-clause-passed : goal.returns-clause-passed
-returns-clause-passed g c = counted c.begin_tree-printer.ensures c.send_words_by.ensures c.write_end.ensures
+returns-clause-passed g c = counted c.begin_tree-printer.ensures (ends_behind _ _ c.send_words_by.ensures c.write_end.ensures)

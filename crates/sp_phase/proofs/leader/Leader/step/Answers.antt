@@ -4,8 +4,8 @@ use Rattle.sp_paths.specs.Paths.{IsVertex}
 use Rattle.sp_paths.proofs.Sweep.{swept_is_pair}
 use Rattle.sp_phase.specs.Stage.{Stage}
 use Rattle.sp_phase.specs.Lead.{Lead}
-use Rattle.sp_phase.specs.declared.advancing.Until.{Until}
-use Rattle.sp_phase.specs.declared.advancing.Until.TheVariants.{BucketSettled}
+use Rattle.sp_phase.specs.declared.advancing.AdvanceUntil.{AdvanceUntil}
+use Rattle.sp_phase.specs.declared.advancing.AdvanceUntil.TheVariants.{BucketSettled}
 use Rattle.sp_phase.specs.Settling.{Tells, IsBeyond}
 use Rattle.sp_phase.proofs.SettledBuckets.{sweep_pair}
 use Rattle.sp_phase.proofs.leader.Leader.step.Goals as goal
@@ -15,7 +15,7 @@ returns-in_ok-none-in-None-clause-later g c _ = subst (λ o. IfSome o (IsBeyond 
 
 pub returns-in-BucketSettled-clause-later : goal.returns-in-BucketSettled-clause-later
 returns-in-BucketSettled-clause-later g c =
-    let T : Until → Option ℕ → Type 0 = λ u o. IfOk c.settle_bucket.result (λ (done : Lead × Bool). IsTrue done.1 → IfSome o (IsBeyond u)) in
+    let T : AdvanceUntil → Option ℕ → Type 0 = λ u o. IfOk c.settle_bucket.result (λ (done : Lead × Bool). IsTrue done.1 → IfSome o (IsBeyond u)) in
     subst (λ u. T u c.args.bucket) (sym c.in-BucketSettled.is) (subst (λ o. T (BucketSettled c.in-BucketSettled.closed) o) (sym c.in-Some.is) c.settle_bucket.ensures.later)
 
 pub returns-in-BucketSettled-clause-told : goal.returns-in-BucketSettled-clause-told

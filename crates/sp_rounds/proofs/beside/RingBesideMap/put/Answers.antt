@@ -1,6 +1,6 @@
 use Rattle.std.proofs.Common.{ap, subst}
 use Rattle.std.specs.Prelude.{All, OnOk}
-use Rattle.sp_rounds.specs.Content.{Content, Puts}
+use Rattle.sp_rounds.specs.Content.{BucketsContent, Puts}
 use Rattle.sp_rounds.specs.Window.{Window, content_of}
 use Rattle.sp_rounds.specs.Beside.{both, AreApart}
 use Rattle.sp_rounds.proofs.BesideSteps.{IsOfAnother, free_where_held, put_in_ring, put_in_map, on_err_by}
@@ -18,7 +18,7 @@ invariant_of-self c = (ring_put c).0
 
 pub returns-then-not-holds-clause-put : goal.returns-then-not-holds-clause-put
 returns-then-not-holds-clause-put c =
-    subst (λ (s : Content). OnOk c.put.result (Puts c.args.entry s (both (content_of c.put.new.self) c.self.inside.map))) c.self.view_is (ring_put c).1
+    subst (λ (s : BucketsContent). OnOk c.put.result (Puts c.args.entry s (both (content_of c.put.new.self) c.self.inside.map))) c.self.view_is (ring_put c).1
 
 -- the ring has no entry of the bucket
 free : (c : goal.After-put-else-covers) → All (IsOfAnother c.self.inside.ring.delta c.number_of-number.result) c.self.inside.ring.entries
@@ -40,4 +40,4 @@ invariant_of-self-else-covers c = (map_put c).0
 
 pub returns-else-covers-clause-put : goal.returns-else-covers-clause-put
 returns-else-covers-clause-put c =
-    subst (λ (s : Content). OnOk c.put-else-covers.result (Puts c.args.entry s (both (content_of c.self.inside.ring) c.put-else-covers.new.self))) c.self.view_is (map_put c).1
+    subst (λ (s : BucketsContent). OnOk c.put-else-covers.result (Puts c.args.entry s (both (content_of c.self.inside.ring) c.put-else-covers.new.self))) c.self.view_is (map_put c).1

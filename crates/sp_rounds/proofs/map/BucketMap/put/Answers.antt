@@ -3,7 +3,7 @@ use Rattle.std.proofs.lemmas.Result.{err_from_is_err_and}
 use Rattle.std.specs.BTreeMap.{insert_entry}
 use Rattle.std.specs.declared.alloc.Global.{Global}
 use Rattle.sp_bins.specs.declared.entry.Entry.{Entry}
-use Rattle.sp_rounds.specs.Content.{Content, Puts, bucket_of}
+use Rattle.sp_rounds.specs.Content.{BucketsContent, Puts, bucket_of}
 use Rattle.sp_rounds.specs.Filed.{IsFiled}
 use Rattle.sp_rounds.proofs.BucketMap.{content_of, put_there, refused_there, put_first}
 use Rattle.sp_rounds.proofs.map.BucketMap.put.Goals as goal
@@ -27,10 +27,10 @@ returns-in_err-push-clause-refused c =
     rw (p.1, p.2) (same.1 ∙ c.self.view_is)
 
 bucket : (c : goal.In_ok-push) → bucket_of c.self.inside.delta c.args.entry ≡ c.number_of-number.result
-bucket c = sym (c.number_of-number.ensures ∙ ap (λ (s : Content). bucket_of s.delta c.args.entry) (sym c.self.view_is))
+bucket c = sym (c.number_of-number.ensures ∙ ap (λ (s : BucketsContent). bucket_of s.delta c.args.entry) (sym c.self.view_is))
 
 bucket_new : (c : goal.Joined-branch-4) → bucket_of c.self.inside.delta c.args.entry ≡ c.number_of-number.result
-bucket_new c = sym (c.number_of-number.ensures ∙ ap (λ (s : Content). bucket_of s.delta c.args.entry) (sym c.self.view_is))
+bucket_new c = sym (c.number_of-number.ensures ∙ ap (λ (s : BucketsContent). bucket_of s.delta c.args.entry) (sym c.self.view_is))
 
 pub invariant_of-self-in-Some : goal.invariant_of-self-in-Some
 invariant_of-self-in-Some c =

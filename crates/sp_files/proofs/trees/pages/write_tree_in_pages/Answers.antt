@@ -1,9 +1,0 @@
-use Rattle.std.proofs.Common.{length, ap}
-use Rattle.sp_files.proofs.WholeTexts.{tree_written, counted}
-use Rattle.sp_files.proofs.trees.pages.write_tree_in_pages.Goals as goal
-
-pub returns-clause-written : goal.returns-clause-written
-returns-clause-written g c = tree_written c.args.tree.now c.n.ensures.n c.source.ensures.source c.rows.ensures.rows (ap length c.rows-2.ensures.rows) c.begin_tree-printer.ensures c.send_pages.ensures c.write_end.ensures
-
-pub returns-clause-passed : goal.returns-clause-passed
-returns-clause-passed g c = counted c.begin_tree-printer.ensures c.send_pages.ensures c.write_end.ensures

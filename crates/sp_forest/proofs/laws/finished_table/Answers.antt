@@ -1,8 +1,0 @@
-use Rattle.sp_forest.proofs.Finished.{finished_is_forest, finished_is_far}
-use Rattle.sp_forest.proofs.laws.finished_table.Goals as goal
-
-pub returns-clause-is_forest : goal.returns-clause-is_forest
-returns-clause-is_forest c = finished_is_forest
-
-pub returns-clause-is_far : goal.returns-clause-is_far
-returns-clause-is_far c = finished_is_far

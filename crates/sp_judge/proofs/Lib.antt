@@ -1,0 +1,10 @@
+pub mod Below
+pub mod Shows
+pub mod OpenTails
+pub mod Ranges
+pub mod Closed
+pub mod LoweringSteps
+pub mod PassSteps
+pub mod TableSteps
+pub mod LoweredWalks
+pub mod Asked

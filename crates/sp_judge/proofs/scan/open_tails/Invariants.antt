@@ -1,0 +1,8 @@
+use Rattle.std.proofs.Common.{take}
+use Rattle.sp_word.specs.Word.{max_dist}
+use Rattle.sp_paths.specs.Paths.{word_at}
+use Rattle.sp_judge.specs.Shown.{AreOpenTails}
+use Rattle.sp_judge.proofs.scan.open_tails.Given as goal
+
+abbrev pub invariant-loop-arc : goal.invariant-loop-arc
+invariant-loop-arc g l = AreOpenTails (max_dist g.row.P) (word_at l.words) (take l.arc-index l.arcs) l.tails.items

@@ -1,0 +1,7 @@
+use Rattle.sp_network.proofs.TurnedArcs.{first_are_arcs}
+use Rattle.sp_network.proofs.turning.turned_arcs.Goals as goal
+
+pub returns-clause-arcs : goal.returns-clause-arcs
+returns-clause-arcs c =
+    let h = c.args.graph.now in
+    first_are_arcs h.n c.loop-arc.arc-index h.arcs c.loop-arc.arcs.items c.arcs-arc-items.ensures.graph (rw (← c.arcs-arc-items.ensures.arcs) c.loop-arc.invariant)

@@ -1,7 +1,0 @@
-use Rattle.std.proofs.Common.{refl}
-use Rattle.sp_packed.specs.Words.{sum_words}
-use Rattle.sp_packed.proofs.words.sum_numbers.Goals as goal
-
-pub returns-clause-words : goal.returns-clause-words
-unfolding sum_words
-returns-clause-words c = refl

@@ -1,4 +1,0 @@
-pub mod LoweringSteps
-pub mod PassSteps
-pub mod TableSteps
-pub mod LoweredWalks

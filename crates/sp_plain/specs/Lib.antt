@@ -1,4 +1,0 @@
-pub mod Passing
-pub mod Lowering
-pub mod Answer
-pub mod Several

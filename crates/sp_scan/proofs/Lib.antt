@@ -1,4 +1,0 @@
-pub mod Shows
-pub mod OpenTails
-pub mod Ranges
-pub mod Closed

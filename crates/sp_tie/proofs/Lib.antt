@@ -1,4 +1,0 @@
-pub mod Rows
-pub mod Steps
-pub mod Singles
-pub mod Runs

@@ -1,5 +1,0 @@
-use Rattle.sp_tie.proofs.Runs.{end_is_run}
-use Rattle.sp_tie.proofs.laws.every_end_is_a_run.Goals as goal
-
-pub returns : goal.returns
-returns g c = end_is_run g.L.Lawful.allows

@@ -1,2 +1,0 @@
-pub mod TurnedArcs
-pub mod Walks

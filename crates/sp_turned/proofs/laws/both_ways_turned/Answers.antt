@@ -1,5 +1,0 @@
-use Rattle.sp_turned.proofs.TurnedArcs.{both_ways_turned}
-use Rattle.sp_turned.proofs.laws.both_ways_turned.Goals as goal
-
-pub returns : goal.returns
-returns c = both_ways_turned

@@ -1,8 +1,0 @@
-use Rattle.sp_turned.proofs.Walks.{both_ways_walk, both_ways_least}
-use Rattle.sp_turned.proofs.laws.both_ways_walks.Goals as goal
-
-pub returns-clause-walks : goal.returns-clause-walks
-returns-clause-walks c = both_ways_walk
-
-pub returns-clause-least : goal.returns-clause-least
-returns-clause-least c = both_ways_least

@@ -1,8 +1,0 @@
-use Rattle.sp_turned.proofs.Walks.{turned_walk, turned_least}
-use Rattle.sp_turned.proofs.laws.turned_walks.Goals as goal
-
-pub returns-clause-walks : goal.returns-clause-walks
-returns-clause-walks c = turned_walk
-
-pub returns-clause-least : goal.returns-clause-least
-returns-clause-least c = turned_least

@@ -1,4 +1,0 @@
-use Rattle.sp_turned.proofs.turning.turned.Goals as goal
-
-pub from_arcs_by-requires-clause-arcs : goal.from_arcs_by-requires-clause-arcs
-from_arcs_by-requires-clause-arcs g c κs within = rw c.n-n.ensures.n c.in_ok-arcs.ensures.arcs

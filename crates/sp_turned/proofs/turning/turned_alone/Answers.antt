@@ -1,4 +1,0 @@
-use Rattle.sp_turned.proofs.turning.turned_alone.Goals as goal
-
-pub from_arcs-requires-clause-arcs : goal.from_arcs-requires-clause-arcs
-from_arcs-requires-clause-arcs c = rw c.n-n.ensures.n c.in_ok-arcs.ensures.arcs
