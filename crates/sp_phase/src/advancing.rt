@@ -156,7 +156,8 @@ impl<'a, 'g, const P: u32> Leader<'a, 'g, P> {
         ensures told { IfOk result (λ done. IsTrue done.1 → Tells P bucket done.0) }
         ensures later { IfOk result (λ done. IsTrue done.1 → IfSome bucket (IsBeyond until)) }
         ensures swept { IfOk result (λ done. IsTrue done.1 → IfNone bucket (HasSwept P done.0)) }
-        ensures whole { IfOk result (λ done. IsTrue done.1 → until ≡ AdvanceUntil.Swept → bucket ≡ None) }
+        ensures whole { IfOk result
+            (λ done. IsTrue done.1 → until ≡ AdvanceUntil.Swept → bucket ≡ None) }
         ensures target { IfOk result (λ done. IsTrue done.1 → KnowsFinal P until done.0) }
     {
         match bucket {

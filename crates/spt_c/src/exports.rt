@@ -379,7 +379,8 @@ pub extern "C" fn spt_graph_turned(
     ensures in_use { IsInUse graph.old → (result ≡ answer_in_use) × IsSame graph.old graph.new }
     ensures in_use_from { IsInUse from.old
         → (result ≡ answer_in_use) × IsSame graph.old graph.new }
-    ensures made { IsFree graph.old → IsFree from.old → (made : KeepOutcome) × (result ≡ made_of made)
+    ensures made { IsFree graph.old → IsFree from.old
+        → (made : KeepOutcome) × (result ≡ made_of made)
         × IsMadeFrom IsTurned (kept from.old) (kept graph.old) (kept graph.new) made }
     ensures free { IsFree graph.old → IsFree graph.new }
     ensures same { IsSame from.old from.new }
@@ -399,7 +400,8 @@ pub extern "C" fn spt_graph_both_ways(
     ensures in_use { IsInUse graph.old → (result ≡ answer_in_use) × IsSame graph.old graph.new }
     ensures in_use_from { IsInUse from.old
         → (result ≡ answer_in_use) × IsSame graph.old graph.new }
-    ensures made { IsFree graph.old → IsFree from.old → (made : KeepOutcome) × (result ≡ made_of made)
+    ensures made { IsFree graph.old → IsFree from.old
+        → (made : KeepOutcome) × (result ≡ made_of made)
         × IsMadeFrom IsBothWays (kept from.old) (kept graph.old) (kept graph.new) made }
     ensures free { IsFree graph.old → IsFree graph.new }
     ensures same { IsSame from.old from.new }

@@ -24,8 +24,7 @@ fn is_written(
     sources: List,
     targets: List,
     by: (u32, u32),
-    answer: Result<Summary, BatchError>,
-    text: &str,
+    wanted: (Result<Summary, BatchError>, &str),
 ) -> bool
     requires sources { IsNumbered sources }
     requires targets { IsNumbered targets }
@@ -40,7 +39,7 @@ fn is_written(
         &mut out,
         &settings::<28>(rt, Direction::AsGiven, Some(2), by.0),
     );
-    told == answer && out.taken() == text.as_bytes()
+    told == wanted.0 && out.taken() == wanted.1.as_bytes()
 }
 
 #[test]
@@ -57,7 +56,7 @@ fn matrix_of_two_sources_and_three_targets(rt: HostRuntime) -> Result<(), Fail> 
         (WIDE, (64, 13), failed, "d 1 4 5 2\nd 1"),
     ] {
         let (sources, targets) = (listed(rt.alloc(), TWO)?, listed(rt.alloc(), TARGETS)?);
-        assert!(rt; is_written(&rt, gr, sources, targets, by, answer, text));
+        assert!(rt; is_written(&rt, gr, sources, targets, by, (answer, text)));
     }
     Ok(())
 }
@@ -72,7 +71,7 @@ fn is_written_of_4(
     requires { IsNumbered targets }
 {
     let sources = Listing::These(&[4]);
-    is_written(rt, DIAMOND, sources, targets, (1, 1000), answer, text)
+    is_written(rt, DIAMOND, sources, targets, (1, 1000), (answer, text))
 }
 
 // Two of the lists have a target that isn't a vertex.

@@ -30,8 +30,7 @@ fn is_answered<const P: u32>(
     list: List,
     limit: Option<u64>,
     by: (u32, u32),
-    answer: Result<Summary, BatchError>,
-    text: &str,
+    wanted: (Result<Summary, BatchError>, &str),
 ) -> bool
     requires layout { is_layout P ≡ true }
     requires limit { IfSome limit (λ limit. limit ≤ max_dist P) }
@@ -47,7 +46,7 @@ fn is_answered<const P: u32>(
         &mut out,
         &settings::<P>(rt, Direction::AsGiven, Some(2), by.0),
     );
-    told == answer && out.taken() == text.as_bytes()
+    told == wanted.0 && out.taken() == wanted.1.as_bytes()
 }
 
 // Whether any number of workers writes and counts exactly this.
@@ -66,7 +65,7 @@ fn is_written<const P: u32>(
         let Ok(list) = listed(rt.alloc(), sources.ss) else {
             return false;
         };
-        if !is_answered::<P>(rt, sources.gr, list, limit, (workers, 1000), answer, text) {
+        if !is_answered::<P>(rt, sources.gr, list, limit, (workers, 1000), (answer, text)) {
             return false;
         }
     }
@@ -131,10 +130,10 @@ fn far_vertices(rt: HostRuntime) -> Result<(), Fail> {
 fn given_sources(rt: HostRuntime) -> Result<(), Fail> {
     let none = Err(BatchError::NoSuchVertex(5, Role::Source));
     let beyond = Listing::These(&[3, 5, 6]);
-    assert!(rt; is_answered::<28>(&rt, DIAMOND, beyond, None, (2, 1000), none, ""));
+    assert!(rt; is_answered::<28>(&rt, DIAMOND, beyond, None, (2, 1000), (none, "")));
     let failed = Err(BatchError::Write);
     let begun = "p near 4 2\nv ";
     let given = Listing::These(&[3, 1]);
-    assert!(rt; is_answered::<28>(&rt, DIAMOND, given, None, (2, 13), failed, begun));
+    assert!(rt; is_answered::<28>(&rt, DIAMOND, given, None, (2, 13), (failed, begun)));
     Ok(())
 }
