@@ -18,7 +18,7 @@ pub(crate) const AMPLE: u32 = 1 << 20;
 
 /// The texts of a graph and of its sources, and the number of bytes that the writer takes in all.
 #[derive(Clone, Copy)]
-pub(crate) struct Case<'t> {
+pub(crate) struct BatchCase<'t> {
     pub(crate) gr: &'t str,
     pub(crate) ss: &'t str,
     pub(crate) room: u32,
@@ -84,7 +84,7 @@ pub(crate) fn listed(alloc: Global, text: &str) -> Result<List, AllocError>
 /// Runs a batch.
 pub(crate) fn run<const P: u32>(
     rt: &(impl Abort + AllocGlobal + Threads + Wait + Sync),
-    case: Case,
+    case: BatchCase,
     width: BucketWidth<P>,
     workers: u32,
 ) -> Ran
@@ -106,7 +106,7 @@ pub(crate) fn run<const P: u32>(
 /// Runs a batch in buckets of width 2.
 pub(crate) fn run_narrow(
     rt: &(impl Abort + AllocGlobal + Threads + Wait + Sync),
-    case: Case,
+    case: BatchCase,
     workers: u32,
 ) -> Ran {
     run::<28>(rt, case, width_of(rt, Some(2)), workers)

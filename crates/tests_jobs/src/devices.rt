@@ -1,7 +1,7 @@
 //! Devices that fail.
 ghost use Rattle.std.specs.Prelude.{◌<◌, ◌≤◌, length};
 
-use crate::batches::{Case, crew, run_narrow, summary, width_of};
+use crate::batches::{BatchCase, crew, run_narrow, summary, width_of};
 use crate::graphs::{ALONE, DIAMOND, ONE, TWO, TWO_TEXT};
 use sp_device::{OfRead, Peeked, UpTo, UpToWriter};
 use sp_jobs::{BatchError, Summary, run_batch};
@@ -15,7 +15,7 @@ use std::thread::Threads;
 // Whether a writer that takes only `case.room` bytes took the beginning of the text, and its failure was reported.
 fn is_begun(
     rt: &(impl Abort + AllocGlobal + Threads + Wait + Sync),
-    case: Case,
+    case: BatchCase,
     workers: u32,
     text: &str,
 ) -> bool {
@@ -29,7 +29,7 @@ fn is_begun(
 /// of it.
 pub(crate) fn is_written_up_to(
     rt: &(impl Abort + AllocGlobal + Threads + Wait + Sync),
-    case: Case,
+    case: BatchCase,
     step: u32,
     workers: u32,
     answer: Result<Summary, BatchError>,
@@ -38,7 +38,7 @@ pub(crate) fn is_written_up_to(
     requires { 0 < step }
 {
     for room in 0..case.room {
-        let short = Case { room, ..case };
+        let short = BatchCase { room, ..case };
         if room % step == 0 && !is_begun(rt, short, workers, text) {
             return false;
         }
@@ -48,13 +48,13 @@ pub(crate) fn is_written_up_to(
 
 #[test]
 fn writers_that_fail_after_some_bytes(rt: HostRuntime) -> Result<(), Fail> {
-    let alone = Case {
+    let alone = BatchCase {
         gr: ALONE,
         ss: ONE,
         room: 12,
     };
     assert!(rt; is_begun(&rt, alone, 1, "p spt 1 1\nv 1 0 0\ne 1\n"));
-    let case = Case {
+    let case = BatchCase {
         gr: DIAMOND,
         ss: TWO,
         room: 68,

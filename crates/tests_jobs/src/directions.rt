@@ -65,7 +65,7 @@ const BOTH_WAYS: Wanted = Wanted {
 
 /// The bytes of the diamond's file, and a job's direction and number of workers.
 #[derive(Clone, Copy)]
-struct Given<'t> {
+struct DirectedJob<'t> {
     gr: &'t [u8],
     direction: Direction,
     workers: u32,
@@ -78,7 +78,7 @@ fn is_whole(answer: Result<Summary, BatchError>, count: u64, out: &UpToWriter, t
 
 fn has_tree(
     rt: &(impl Abort + AllocGlobal + Threads + Wait + Sync),
-    given: Given,
+    given: DirectedJob,
     ss: &str,
     text: &str,
 ) -> bool {
@@ -100,7 +100,7 @@ fn has_tree(
 
 fn has_matrix(
     rt: &(impl Abort + AllocGlobal + Threads + Wait + Sync),
-    given: Given,
+    given: DirectedJob,
     text: &str,
 ) -> bool {
     let (Ok(sources), Ok(targets)) = (listed(rt.alloc(), TWO), listed(rt.alloc(), TWO)) else {
@@ -121,7 +121,7 @@ fn has_matrix(
 
 fn has_pairs(
     rt: &(impl Abort + AllocGlobal + Threads + Wait + Sync),
-    given: Given,
+    given: DirectedJob,
     text: &str,
 ) -> bool {
     let mut out = UpToWriter::new(rt.alloc(), 1000, 1000);
@@ -138,7 +138,7 @@ fn has_pairs(
 
 fn has_forest(
     rt: &(impl Abort + AllocGlobal + Threads + Wait + Sync),
-    given: Given,
+    given: DirectedJob,
     text: &str,
 ) -> bool {
     let Ok(sources) = listed(rt.alloc(), MIDDLE) else {
@@ -164,7 +164,7 @@ fn is_written(
     wanted: Wanted,
 ) -> bool {
     for workers in [1, 2, 64] {
-        let given = Given {
+        let given = DirectedJob {
             gr,
             direction: wanted.direction,
             workers,

@@ -1,6 +1,6 @@
 //! Graphs and the texts of their trees. `tests/commands.py` compares what is written for worked examples.
 
-use crate::batches::{AMPLE, Case, run, summary, width_of};
+use crate::batches::{AMPLE, BatchCase, run, summary, width_of};
 use sp_jobs::{BatchError, BucketWidth, Role, Summary};
 use std::process::Abort;
 use std::sync::Wait;
@@ -63,7 +63,7 @@ fn is_answered(
     answer: Result<Summary, BatchError>,
     text: &str,
 ) -> bool {
-    let case = Case {
+    let case = BatchCase {
         gr,
         ss,
         room: AMPLE,
@@ -92,7 +92,7 @@ fn sources_of_the_diamond(rt: HostRuntime) -> Result<(), Fail> {
 // With 32 bits for the predecessor, the second of two long arcs leads too far.
 #[test]
 fn too_far(rt: HostRuntime) -> Result<(), Fail> {
-    let case = Case {
+    let case = BatchCase {
         gr: "p sp 3 2\na 1 2 4294967294\na 2 3 1\n",
         ss: ONE,
         room: 100,

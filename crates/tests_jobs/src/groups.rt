@@ -1,6 +1,6 @@
 //! Several sources answered at once.
 
-use crate::batches::{AMPLE, Case, Ran, run_narrow, summary};
+use crate::batches::{AMPLE, BatchCase, Ran, run_narrow, summary};
 use crate::devices::is_written_up_to;
 use crate::graphs::WIDE;
 use sp_jobs::BatchError;
@@ -16,7 +16,7 @@ p spt 2000 1\nv 1 0 0\nv 2 3 1\nv 3 3 1\nv 4 5 2\ne 4\n\
 p spt 2000 4\nv 4 0 0\ne 1\n\
 p spt 2000 1\nv 1 0 0\nv 2 3 1\nv 3 3 1\nv 4 5 2\ne 4\n";
 
-const OF_FIVE: Case = Case {
+const OF_FIVE: BatchCase = BatchCase {
     gr: WIDE,
     ss: FIVE,
     room: 197,
@@ -92,7 +92,7 @@ pub(crate) fn town(alloc: Global) -> Result<String, Fail> {
 #[test]
 fn nine_sources_by_groups(rt: HostRuntime) -> Result<(), Fail> {
     let gr = town(rt.alloc())?;
-    let case = Case {
+    let case = BatchCase {
         gr: &gr,
         ss: NINE,
         room: AMPLE,

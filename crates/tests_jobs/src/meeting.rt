@@ -20,14 +20,14 @@ const MOST_LOADS: u64 = 1_000_000_000;
 /// Holds each source after the first ones until a given number of sources have begun, for a bounded number of loads. It counts
 /// the sources that saw the others begin. Its answers have no text.
 #[derive(Drop)]
-struct Meeting {
+struct SourcesMeet {
     first: u64,
     wanted: u64,
     begun: AtomicU64,
     met: AtomicU64,
 }
 
-impl Meeting {
+impl SourcesMeet {
     fn meet(&self) {
         let begun = self.begun.fetch_add(1, Ordering::SeqCst);
         if begun < self.first || begun >= self.wanted {
@@ -42,7 +42,7 @@ impl Meeting {
     }
 }
 
-impl Question for Meeting {
+impl Question for SourcesMeet {
     type Found = u32;
 
     ghost told = { λ _. record { count = 1; far = 0; text = [] } };
@@ -89,7 +89,7 @@ fn do_meet(
         .saturating_sub(at_once)
         .checked_rem(at_once)
         .unwrap_or(0);
-    let meeting = Meeting {
+    let meeting = SourcesMeet {
         first: over,
         wanted: over.saturating_add(at_once),
         begun: AtomicU64::new(0),

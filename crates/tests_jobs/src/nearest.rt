@@ -18,7 +18,7 @@ const OF_1_AND_3: &str = "p near 4 2\nv 1 0 0 1\nv 2 3 1 1\nv 3 0 0 3\nv 4 2 3 3
 
 /// A graph, and a list of its sources.
 #[derive(Clone, Copy)]
-struct Sources<'t> {
+struct NearestInput<'t> {
     gr: &'t str,
     ss: &'t str,
 }
@@ -52,7 +52,7 @@ fn is_answered<const P: u32>(
 // Whether any number of workers writes and counts exactly this.
 fn is_written<const P: u32>(
     rt: &(impl Abort + AllocGlobal + Threads + Wait + Sync),
-    sources: Sources,
+    sources: NearestInput,
     limit: Option<u64>,
     text: &str,
 ) -> bool
@@ -80,7 +80,7 @@ fn sources_are_a_set(rt: HostRuntime) -> Result<(), Fail> {
         ("p aux sp ss 3\ns 3\ns 1\ns 3\n", OF_1_AND_3),
         ("p aux sp ss 0\n", "p near 4 0\ne 0\n"),
     ] {
-        let sources = Sources { gr: DIAMOND, ss };
+        let sources = NearestInput { gr: DIAMOND, ss };
         assert!(rt; is_written::<28>(&rt, sources, None, text));
     }
     Ok(())
@@ -106,7 +106,7 @@ fn ties_and_sources_on_the_way(rt: HostRuntime) -> Result<(), Fail> {
             "p near 2 2\nv 1 0 0 1\nv 2 0 0 2\ne 2\n",
         ),
     ] {
-        assert!(rt; is_written::<28>(&rt, Sources { gr, ss }, None, text));
+        assert!(rt; is_written::<28>(&rt, NearestInput { gr, ss }, None, text));
     }
     Ok(())
 }
@@ -115,17 +115,17 @@ fn ties_and_sources_on_the_way(rt: HostRuntime) -> Result<(), Fail> {
 #[test]
 fn far_vertices(rt: HostRuntime) -> Result<(), Fail> {
     let ss = "p aux sp ss 1\ns 1\n";
-    let path = Sources { gr: BEYOND, ss };
+    let path = NearestInput { gr: BEYOND, ss };
     assert!(rt; is_written::<28>(&rt, path, None, "x 18\n"));
     let alone = "p near 18 1\nv 1 0 0 1\ne 1\n";
     assert!(rt; is_written::<28>(&rt, path, Some(4294967294), alone));
     let gr = "p sp 2 1\na 1 2 4294967294\n";
     let text = "p near 2 1\nv 1 0 0 1\nv 2 4294967294 1 1\ne 2\n";
-    assert!(rt; is_written::<32>(&rt, Sources { gr, ss }, None, text));
+    assert!(rt; is_written::<32>(&rt, NearestInput { gr, ss }, None, text));
     Ok(())
 }
 
-// Sources given as numbers, one of them not a vertex; and a writer that fails.
+// NearestInput given as numbers, one of them not a vertex; and a writer that fails.
 #[test]
 fn given_sources(rt: HostRuntime) -> Result<(), Fail> {
     let none = Err(BatchError::NoSuchVertex(5, Role::Source));

@@ -47,11 +47,11 @@ impl<R: Read> Read for Device<R> {
 
 // Files in memory, by name. None can be created.
 #[derive(Clone, Copy)]
-struct Shelf<'a> {
+struct FilesByName<'a> {
     files: &'a [(&'a str, Stored<'a>)],
 }
 
-impl Outputs for Shelf<'_> {
+impl Outputs for FilesByName<'_> {
     type Output = UpToWriter;
 
     type Name = ();
@@ -71,7 +71,7 @@ impl Outputs for Shelf<'_> {
     fn discard(&mut self, _name: (), _output: UpToWriter) {}
 }
 
-impl<'a> Inputs for Shelf<'a> {
+impl<'a> Inputs for FilesByName<'a> {
     type File = Device<UpTo<'a>>;
 
     fn open_input(&self, path: &str) -> Option<Device<UpTo<'a>>> {
@@ -101,7 +101,7 @@ fn reader<'a>(stored: Stored<'a>) -> Option<Device<UpTo<'a>>>
 
 /// The result of a run of the program.
 #[derive(Drop)]
-pub struct Ended {
+pub struct ProgramEnd {
     pub status: u8,
     pub out: UpToWriter,
     pub err: UpToWriter,
@@ -114,12 +114,12 @@ pub fn run_in<R: Threads + Wait + Sync>(
     rooms: (usize, usize),
     line: &str,
     files: &mut (impl Inputs + Outputs),
-) -> Result<Ended, Fail> {
+) -> Result<ProgramEnd, Fail> {
     let mut out = UpToWriter::new(alloc, rooms.0.min(AMPLE), AMPLE);
     let mut err = UpToWriter::new(alloc, rooms.1.min(AMPLE), AMPLE);
     let words: Vec<&str> = line.split(' ').collect(alloc)?;
     let status = run_command(rt, alloc, &words, files, &mut out, &mut err);
-    Ok(Ended { status, out, err })
+    Ok(ProgramEnd { status, out, err })
 }
 
 /// Runs the program so on these files.
@@ -129,12 +129,12 @@ pub fn run_into<R: Threads + Wait + Sync>(
     rooms: (usize, usize),
     line: &str,
     files: &[(&str, Stored<'_>)],
-) -> Result<Ended, Fail> {
-    run_in(rt, alloc, rooms, line, &mut Shelf { files })
+) -> Result<ProgramEnd, Fail> {
+    run_in(rt, alloc, rooms, line, &mut FilesByName { files })
 }
 
 /// Asserts the status, and the text of standard output and of standard error.
-pub fn expect(rt: &impl Abort, name: &str, ended: Ended, status: u8, out: &str, err: &str) {
+pub fn expect(rt: &impl Abort, name: &str, ended: ProgramEnd, status: u8, out: &str, err: &str) {
     assert_eq!(rt; from_utf8(ended.err.taken()), Ok(err), "in {name}");
     assert_eq!(rt; from_utf8(ended.out.taken()), Ok(out), "in {name}");
     assert_eq!(rt; ended.status, status, "in {name}");

@@ -1,7 +1,7 @@
 //! Sources answered by several threads, as counted by the system.
 ghost use denote.Param.Send.{IsSync};
 
-use crate::batches::{AMPLE, Case, Ran, run, width_of};
+use crate::batches::{AMPLE, BatchCase, Ran, run, width_of};
 use crate::graphs::ONE;
 use crate::groups::{NINE, town};
 use std::alloc::Global;
@@ -71,7 +71,7 @@ fn look<R: Files + AllocGlobal>(rt: &R, usual: u64, done: &AtomicBool) -> bool {
 // Runs a batch on a thread of its own, and returns whether there were more threads meanwhile.
 fn run_looked_at<R: Files + AllocGlobal + Threads + Wait + Sync + Abort>(
     rt: &R,
-    case: Case,
+    case: BatchCase,
     workers: u32,
 ) -> (Ran, bool) {
     let usual = count_threads(rt).saturating_add(1);
@@ -90,7 +90,7 @@ fn run_looked_at<R: Files + AllocGlobal + Threads + Wait + Sync + Abort>(
 // Repeats runs until more threads are seen.
 fn is_shared<R: Files + AllocGlobal + Threads + Wait + Sync + Abort>(
     rt: &R,
-    case: Case,
+    case: BatchCase,
     workers: u32,
     want: &Ran,
 ) -> bool {
@@ -109,7 +109,7 @@ fn is_shared<R: Files + AllocGlobal + Threads + Wait + Sync + Abort>(
 // Whether a batch starts threads if there are several processors, and gives the same as one worker.
 fn starts_threads<R: Files + AllocGlobal + Threads + Wait + Sync + Abort>(
     rt: &R,
-    case: Case,
+    case: BatchCase,
 ) -> bool {
     let want = run::<28>(rt, case, width_of(rt, Some(500)), 1);
     if want.answer.is_err() {
@@ -122,7 +122,7 @@ fn starts_threads<R: Files + AllocGlobal + Threads + Wait + Sync + Abort>(
 #[test]
 fn runs_start_threads(rt: HostRuntime) -> Result<(), Fail> {
     for (gr, ss) in [(ring(rt.alloc())?, ONE), (town(rt.alloc())?, NINE)] {
-        let case = Case {
+        let case = BatchCase {
             gr: &gr,
             ss,
             room: AMPLE,

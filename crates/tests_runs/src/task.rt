@@ -2,7 +2,7 @@
 ghost use Rattle.std.specs.Prelude.{◌≡◌, ℕ, ◌<◌, ◌≤◌, length, All, IfOk, IfErr, IsTrue};
 
 use crate::phase::crew;
-use gates::{Count, Meeting, Thief};
+use gates::{Count, Thief, WorkersMeet};
 use sp_graph::Rows;
 use sp_offer::{AnyWord, Loop, Lowering, OneMin};
 use sp_paths::Arc;
@@ -30,7 +30,7 @@ struct Played {
 
 /// A round to play: its tasks, its number, and the number of its workers.
 #[derive(Clone, Copy)]
-struct Plan<'t> {
+struct RoundPlan<'t> {
     tasks: &'t [Task],
     number: u64,
     workers: Workers,
@@ -41,7 +41,7 @@ fn play<M: Lowering + Send + Sync, R: Threads + Wait + Sync, G: Gate + Sync>(
     rt: &R,
     alloc: Global,
     bench: Bench,
-    plan: &Plan<'_>,
+    plan: &RoundPlan<'_>,
     gate: &G,
 ) -> Played {
     let Bench {
@@ -187,13 +187,13 @@ const OFFERS: [(u32, u64, u32); 3] = [(1, 0, 0), (2, 1, 1), (3, 1, 1)];
 fn two_workers_meet(rt: HostRuntime) -> Result<(), Fail> {
     let alloc = rt.alloc();
     let bench = opened(alloc, 5, &TWO_ARMS, 1, &OFFERS)?;
-    let gate = Meeting::new();
-    let plan = Plan {
+    let gate = WorkersMeet::new();
+    let plan = RoundPlan {
         tasks: &[light(2, 1), light(3, 1)],
         number: 1,
         workers: crew(&rt, 2),
     };
-    let played = play::<Loop, HostRuntime, Meeting>(&rt, alloc, bench, &plan, &gate);
+    let played = play::<Loop, HostRuntime, WorkersMeet>(&rt, alloc, bench, &plan, &gate);
     assert!(rt; !played.refused, "no memory");
     assert!(rt; gate.met(), "the workers did not meet");
     assert!(rt; played.started == 2);
@@ -215,7 +215,7 @@ fn thief_takes(rt: HostRuntime) -> Result<(), Fail> {
     let offers = [(1, 0, 0), (2, 1, 1), (3, 1, 1), (4, 1, 1)];
     let bench = opened(alloc, 7, &arcs, 1, &offers)?;
     let gate = Thief::new();
-    let plan = Plan {
+    let plan = RoundPlan {
         tasks: &[light(2, 1), light(3, 1), light(4, 1)],
         number: 1,
         workers: crew(&rt, 2),
@@ -233,7 +233,7 @@ fn play_twice<M: Lowering + Send + Sync, R: Threads + Wait + Sync>(
     rt: &R,
     alloc: Global,
     bench: Bench,
-    plan: &Plan<'_>,
+    plan: &RoundPlan<'_>,
     wanted: &[Entry],
     offers: u64,
 ) -> (Bench, bool) {
@@ -254,14 +254,14 @@ fn diamond<M: Lowering + Send + Sync, R: Threads + Wait + Sync>(
     workers: Workers,
 ) -> Result<bool, AllocError> {
     let bench = opened(alloc, 4, &DIAMOND, 100, &[(1, 0, 0)])?;
-    let round_1 = Plan {
+    let round_1 = RoundPlan {
         tasks: first,
         number: 1,
         workers,
     };
     let wanted = [entry(2, 3), entry(3, 3), entry(4, 6)];
     let (bench, is_first_right) = play_twice::<M, R>(rt, alloc, bench, &round_1, &wanted, 3);
-    let round_2 = Plan {
+    let round_2 = RoundPlan {
         tasks: &[light(2, 3), light(3, 3), light(4, 6)],
         number: 2,
         workers: Workers::new(2).unwrap(),
@@ -324,7 +324,7 @@ fn leaves<R: Threads + Wait + Sync>(
     rt: &R,
     alloc: Global,
     arcs: &[Triple],
-    plan: &Plan<'_>,
+    plan: &RoundPlan<'_>,
     wanted: &[u64],
 ) -> Result<bool, AllocError> {
     let bench = set_up(alloc, MANY, arcs, 25)?;
@@ -349,7 +349,7 @@ fn many_workers_leave_the_words_of_one_caller(rt: HostRuntime) -> Result<(), Fai
     let tasks = random_tasks(alloc)?;
     let wanted = words_of_one(alloc, &arcs, &tasks)?;
     for workers in [1, 2, 4, 64] {
-        let plan = Plan {
+        let plan = RoundPlan {
             tasks: &tasks,
             number: 1,
             workers: crew(&rt, workers),
@@ -377,14 +377,14 @@ fn refused_rounds_are_made_up_for(rt: HostRuntime) -> Result<(), Fail> {
     let alloc = rt.alloc();
     let bench = opened(alloc, 5, &TWO_ARMS, 1, &OFFERS)?;
     let tasks = [light(2, 1), light(3, 1)];
-    let plan = Plan {
+    let plan = RoundPlan {
         tasks: &tasks,
         number: 1,
         workers: crew(&rt, 2),
     };
     let first = play::<Loop, HostRuntime, OpenGate>(&rt, alloc, bench, &plan, &OpenGate);
     assert!(rt; first.refused || are_entries(&first.found, &[entry(4, 2), entry(5, 2)]));
-    let plan = Plan { number: 2, ..plan };
+    let plan = RoundPlan { number: 2, ..plan };
     let second = play::<Loop, HostRuntime, OpenGate>(&rt, alloc, first.bench, &plan, &OpenGate);
     let mut bench = second.bench;
     assert!(rt; has_reached_all(alloc, &mut bench)? || second.refused);

@@ -11,7 +11,7 @@ const MOST_LOADS: u64 = 1_000_000_000;
 /// Counts offers. It lets the first two pass, then holds the first worker that comes until another has come, and records
 /// whether it came.
 #[derive(Drop)]
-struct Meeting {
+struct OffersMeet {
     offers: AtomicU64,
     // 0 while none came; then the first worker's number and one more
     first: AtomicU64,
@@ -19,9 +19,9 @@ struct Meeting {
     met: AtomicBool,
 }
 
-impl Meeting {
-    fn new() -> Meeting {
-        Meeting {
+impl OffersMeet {
+    fn new() -> OffersMeet {
+        OffersMeet {
             offers: AtomicU64::new(0),
             first: AtomicU64::new(0),
             other_came: AtomicBool::new(false),
@@ -39,7 +39,7 @@ impl Meeting {
     }
 }
 
-impl Gate for Meeting {
+impl Gate for OffersMeet {
     fn before_offer(&self, worker: u32) {
         if self.offers.fetch_add(1, Ordering::SeqCst) < 2 {
             return;
@@ -64,7 +64,7 @@ impl Gate for Meeting {
 #[test]
 fn run_meets(rt: HostRuntime) -> Result<(), Fail> {
     let graph = graph_of(rt.alloc(), 5, &[(1, 2, 1), (1, 3, 1), (2, 4, 1), (3, 5, 1)])?;
-    let gate = Meeting::new();
+    let gate = OffersMeet::new();
     let (delta, workers) = (width(&rt, 1), crew(&rt, 2));
     let tree = run_source_with(&rt, rt.alloc(), &graph, delta, workers, 1, &gate)?;
     assert!(rt; tree.rows().len() == 5);

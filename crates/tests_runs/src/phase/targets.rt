@@ -18,7 +18,7 @@ const DELTAS: [u64; 3] = [1, 5, 100];
 
 // What a run is asked, and what it should tell.
 #[derive(Clone, Copy)]
-struct Case<'c> {
+struct TargetsCase<'c> {
     source: u32,
     targets: &'c [u32],
     want: &'c [PairAnswer],
@@ -30,7 +30,7 @@ fn tells(
     graph: &Graph,
     delta: u64,
     workers: u32,
-    case: Case<'_>,
+    case: TargetsCase<'_>,
 ) -> Result<bool, AllocError>
     requires { graph.now.n ≤ 10000 }
 {
@@ -53,7 +53,7 @@ fn crews_tell(
     rt: &(impl Abort + AllocGlobal + Threads + Wait + Sync),
     graph: &Graph,
     delta: u64,
-    case: Case<'_>,
+    case: TargetsCase<'_>,
 ) -> Result<bool, AllocError>
     requires { graph.now.n ≤ 10000 }
 {
@@ -70,7 +70,7 @@ fn all_tell(
     rt: &(impl Abort + AllocGlobal + Threads + Wait + Sync),
     n: u32,
     arcs: &[Triple],
-    case: Case<'_>,
+    case: TargetsCase<'_>,
 ) -> Result<bool, AllocError>
     requires least { 1 ≤ n }
     requires most { n ≤ 10000 }
@@ -90,17 +90,17 @@ fn found(dist: u64, pred: u32) -> PairAnswer {
 
 #[test]
 fn targets_of_diamond(rt: HostRuntime) -> Result<(), Fail> {
-    let all = Case {
+    let all = TargetsCase {
         source: 1,
         targets: &[4, 1, 3, 4],
         want: &[found(5, 2), found(0, 0), found(3, 1), found(5, 2)],
     };
-    let back = Case {
+    let back = TargetsCase {
         source: 4,
         targets: &[1],
         want: &[PairAnswer::NoWalk],
     };
-    let none = Case {
+    let none = TargetsCase {
         source: 1,
         targets: &[],
         want: &[],
@@ -115,17 +115,17 @@ fn targets_of_diamond(rt: HostRuntime) -> Result<(), Fail> {
 fn targets_beyond_the_limit(rt: HostRuntime) -> Result<(), Fail> {
     let arcs = long_path(rt.alloc(), 15)?;
     let near = found(68_719_476_720, 16);
-    let one = Case {
+    let one = TargetsCase {
         source: 1,
         targets: &[17],
         want: &[near],
     };
-    let both = Case {
+    let both = TargetsCase {
         source: 1,
         targets: &[18, 17],
         want: &[PairAnswer::TooFar(18), near],
     };
-    let back = Case {
+    let back = TargetsCase {
         source: 18,
         targets: &[1, 18],
         want: &[PairAnswer::NoWalk, found(0, 0)],
@@ -138,7 +138,7 @@ fn targets_beyond_the_limit(rt: HostRuntime) -> Result<(), Fail> {
 
 #[test]
 fn first_words_are_not_final(rt: HostRuntime) -> Result<(), Fail> {
-    let case = Case {
+    let case = TargetsCase {
         source: 1,
         targets: &[3],
         want: &[found(2, 2)],
@@ -196,7 +196,7 @@ fn both_agree(
     let answer = plain_tree(rt.alloc(), &graph, source)?;
     let targets = random_vertices(rt.alloc(), random, n)?;
     let want = plain_answers(rt.alloc(), &answer, &targets)?;
-    let case = Case {
+    let case = TargetsCase {
         source,
         targets: &targets,
         want: &want,

@@ -7,16 +7,16 @@ const MOST_LOADS: u64 = 1_000_000_000;
 
 /// Holds the first worker that comes until another has come, and records whether it came.
 #[derive(Drop)]
-pub struct Meeting {
+pub struct WorkersMeet {
     // 0 while none came; then the first worker's number and one more
     first: AtomicU64,
     other_came: AtomicBool,
     met: AtomicBool,
 }
 
-impl Meeting {
-    pub fn new() -> Meeting {
-        Meeting {
+impl WorkersMeet {
+    pub fn new() -> WorkersMeet {
+        WorkersMeet {
             first: AtomicU64::new(0),
             other_came: AtomicBool::new(false),
             met: AtomicBool::new(false),
@@ -28,7 +28,7 @@ impl Meeting {
     }
 }
 
-impl Gate for Meeting {
+impl Gate for WorkersMeet {
     fn before_offer(&self, worker: u32) {
         let me = (worker as u64).saturating_add(1);
         match self
