@@ -22,7 +22,7 @@ FILE = "OUT"
 DATE = "2026-11-30"
 # the widest room beside a list for its terms
 WIDEST = 24
-VERSION = os.path.join(os.path.dirname(HERE), "crates", "sp_order", "src", "words.rt")
+VERSION = os.path.join(os.path.dirname(HERE), "crates", "sp_order", "src", "order.rt")
 
 # An option: its word, the name of its value (none: it has none), the values that it may have, or that are words (none: any), what it is,
 # and its whole entry in the help: the words, and the text.
