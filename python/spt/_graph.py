@@ -548,7 +548,7 @@ class Graph:
         progress: Progress = None,
         towards: bool = False,
     ) -> Matrix:
-        """Returns the distance of each target from each source, or, with `towards`, from each target to each source.
+        """Returns the distance, in units, of each target from each source, or, with `towards`, from each target to each source.
 
         NumPy treats it as an array (uint64) with a row for each source and a column for each target. It has UNREACHED (2^64 - 1)
         for an unreachable target, and BEYOND (2^64 - 2) if the target has no distance up to `reach(n)` and some vertex is too far;

@@ -282,7 +282,7 @@ class _Reached:
 
 @dataclass(frozen=True, eq=False, repr=False)
 class Tree(_Reached):
-    """The shortest-path tree from a source, or its part within a distance.
+    """The shortest-path tree from a source, or its part within a distance; distances count units.
 
     `distances` and `predecessors` are lists of unsigned 64-bit and 32-bit numbers, with vertex v at index v - 1: UNREACHED and 0
     for an unreachable vertex, 0 and 0 for the source. `distances` count units; `lengths` are in the unit of the graph's lengths.
