@@ -6,3 +6,4 @@ pub mod ForestTable
 pub mod Rooted
 pub mod Nearest
 pub mod Run
+pub mod Routed

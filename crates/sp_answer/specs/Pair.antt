@@ -8,7 +8,7 @@ use Rattle.sp_answer.specs.declared.pair.PairAnswer.TheVariants.{Found, TooFar, 
 
 -- This is the program's answer as an answer of the definitions.
 abbrev pub answer_of : Told → PairAnswer
-answer_of (Found d p) = FoundPair d p
+answer_of (Found p d) = FoundPair d p
 answer_of (TooFar v) = FarVertex v
 answer_of NoWalk = NoWay
 

@@ -2,8 +2,7 @@
 use Rattle.std.specs.Prelude.{◌≡◌, ℕ, ◌≤◌, List, [], ◌∷◌, All, Any, Option, Some, None, length, map}
 use Rattle.std.specs.List.{AllZip}
 use Rattle.sp_word.specs.Word.{Word, Pair, Unreached, max_dist}
-use Rattle.sp_paths.specs.Paths.{Graph, IsVertex, IsNear as IsNearOne, IsPair, PairAnswer, Found, TooFar, NoWalk, word_at}
-use Rattle.sp_paths.specs.Routes.{IsRoute}
+use Rattle.sp_paths.specs.Paths.{Graph, IsVertex, IsPair, PairAnswer, Found, TooFar, NoWalk, word_at}
 use Rattle.sp_answer.specs.Pair.{answer_by, answer_of}
 use Rattle.sp_answer.specs.Table.{HasPredWithin}
 use Rattle.sp_answer.specs.Within.{up_to}
@@ -112,9 +111,13 @@ pub record AreTargetWords (P : ℕ) (g : Graph) (s : ℕ) (targets : List ℕ) (
 abbrev pub IsAnswerFor : Graph → (s t max : ℕ) → Told → Type 0
 IsAnswerFor g s t max told = IsPair g s t max (answer_of told)
 
+-- These are the answers for targets, in their order.
+abbrev pub AreAnswersBy : {A : Type 0} → (IsAnswerOf : (t : ℕ) → A → Type 0) → (targets : List ℕ) → List A → Type 0
+AreAnswersBy IsAnswerOf targets answers = AllZip IsAnswerOf targets answers
+
 -- These are the answers for targets of a source, in their order.
 abbrev pub AreAnswersFor : Graph → (s max : ℕ) → (targets : List ℕ) → List Told → Type 0
-AreAnswersFor g s max targets answers = AllZip (λ t told. IsAnswerFor g s t max told) targets answers
+AreAnswersFor g s max targets answers = AreAnswersBy (λ t told. IsAnswerFor g s t max told) targets answers
 
 -- The source and all targets are vertices.
 abbrev pub AreAllEnds : (n s : ℕ) → (targets : List ℕ) → Type 0
@@ -125,9 +128,3 @@ abbrev pub IsTargetsRefusal : (n s : ℕ) → (targets : List ℕ) → RunError 
 IsTargetsRefusal n s targets Memory = AreAllEnds n s targets
 IsTargetsRefusal n s targets (TooFarVertex v) = ⊥
 IsTargetsRefusal n s targets NoSuchVertex = AreAllEnds n s targets → ⊥
-
--- ## The route to a target
-
--- The least length of the target is at most max, and this is the route to it.
-abbrev pub IsRouteUpTo : Graph → (s t max : ℕ) → List ℕ → Type 0
-IsRouteUpTo g s t max route = IsNearOne g s max t × IsRoute g s t route

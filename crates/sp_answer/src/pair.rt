@@ -4,12 +4,12 @@ ghost use Rattle.sp_answer.specs.Pair.{answer_of, answer_by};
 
 use sp_word::Word;
 
-/// The answer for a target of a source.
+/// The answer for a target of a source, in 16 bytes. The fields are in memory in the order in which they are declared.
 #[derive(Clone, Copy, Debug, PartialEq, Eq)]
 pub enum PairAnswer {
     /// The target's word in the tree: its least length, and the smallest-numbered vertex before it on a walk of that
     /// length.
-    Found { dist: u64, pred: u32 },
+    Found { pred: u32, dist: u64 },
     /// The target has no least length that fits a word, and this is the smallest vertex that is too far.
     TooFar(u32),
     /// No walk leads to the target.

@@ -4,13 +4,13 @@ ghost use Rattle.sp_word.specs.Word.{is_layout, max_dist, max_pred};
 ghost use Rattle.sp_answer.specs.Answer.{IsAnswer, IsRefusal};
 ghost use Rattle.sp_answer.specs.Within.{IsTreeWithin, IsRefusalWithin};
 ghost use Rattle.sp_answer.specs.Nearest.{IsForestAnswer, IsRefusal as IsForestRefusal};
-ghost use Rattle.sp_answer.specs.Run.{AreAnswersFor, AreAllEnds, IsTargetsRefusal};
+ghost use Rattle.sp_answer.specs.Run.{AreAnswersBy, AreAllEnds, IsTargetsRefusal};
 
 use crate::answer::RunError;
 use crate::asked::{RunRequest, Until, are_vertices};
 use crate::engine::Engine;
 use crate::forest::Forest;
-use crate::pair::PairAnswer;
+use crate::target::TargetAnswer;
 use crate::tree::Tree;
 use crate::word_tree::WordTree;
 use sp_graph::Graph;
@@ -93,19 +93,19 @@ pub fn forest_of<const P: u32, E: Engine<P>>(
 
 /// Returns the answers for targets of a source, in their order. The run ends as soon as the words of all targets are final, so near
 /// targets take little time.
-pub fn answers_of<const P: u32, E: Engine<P>>(
+pub fn answers_of<const P: u32, A: TargetAnswer<P>, E: Engine<P>>(
     engine: &E,
     alloc: Global,
     graph: &Graph,
     source: u32,
     targets: &[u32],
-) -> Result<Vec<PairAnswer>, RunError>
+) -> Result<Vec<A>, RunError>
     requires engine { E.can_run engine.now }
     requires layout { is_layout P ≡ true }
     requires n { graph.now.n ≤ max_pred P }
     ensures ends { IfOk result (λ _. AreAllEnds graph.now.n source targets.now) }
     ensures answers { IfOk result
-        (λ answers. AreAnswersFor graph.now source (max_dist P) targets.now answers.items) }
+        (λ answers. AreAnswersBy (A.is_answer graph.now source) targets.now answers.items) }
     ensures size { IfOk result (λ answers. length answers.items ≡ length targets.now) }
     ensures refused { IfErr result (IsTargetsRefusal graph.now.n source targets.now) }
 {

@@ -1,18 +1,18 @@
-//! The answer of a run, and what it contains: the forest; for one source its tree, a part of it, the answers for
-//! targets, or the route to one.
-ghost use Rattle.std.specs.Prelude.{◌≡◌, ◌≤◌, [], ◌∷◌, true, length, map, All, IfOk, IfErr, IfSome, MatchOption};
+//! The answer of a run, and what it contains: the forest; for one source its tree, a part of it, or the answers for
+//! targets.
+ghost use Rattle.std.specs.Prelude.{◌≡◌, ◌≤◌, true, length, map, All, IfOk, IfErr, IfSome};
 ghost use Rattle.sp_word.specs.Word.{is_layout, max_dist, max_pred};
-ghost use Rattle.sp_paths.specs.Paths.{IsNear, IsVertex, word_at};
+ghost use Rattle.sp_paths.specs.Paths.{IsVertex, word_at};
 ghost use Rattle.sp_answer.specs.Answer.{IsAnswer, IsRefusal};
 ghost use Rattle.sp_answer.specs.Within.{IsTreeWithin, up_to};
 ghost use Rattle.sp_answer.specs.Nearest.{IsForestAnswer, IsRefusal as IsForestRefusal};
-ghost use Rattle.sp_answer.specs.Run.{AreForestWords, AreWholeWords, ArePartWords, AreTargetWords, AreAnswersFor, IsRouteUpTo, IsUpTo, words_within};
+ghost use Rattle.sp_answer.specs.Run.{AreForestWords, AreWholeWords, ArePartWords, AreTargetWords, AreAnswersBy, IsUpTo, words_within};
 
 use crate::answer::RunError;
 use crate::forest::Forest;
-use crate::pair::PairAnswer;
-use crate::route::route_of;
+use crate::target::TargetAnswer;
 use crate::tree::Tree;
+use crate::within::words_within;
 use crate::word_tree::WordTree;
 use sp_graph::{Graph, look_up};
 use sp_word::Word;
@@ -24,38 +24,6 @@ use std::alloc::{AllocError, Global};
 pub struct RunWords<const P: u32> {
     pub words: Vec<Word<P>>,
     pub far: Option<u32>,
-}
-
-// Returns the word if its distance is at most the limit, and the unreached word otherwise.
-fn up_to<const P: u32>(word: Word<P>, limit: u64) -> Word<P>
-    ensures { result ≡ up_to limit word.entry }
-{
-    match word.dist() {
-        Some(dist) if dist <= limit => word,
-        _ => Word::unreached(),
-    }
-}
-
-// Makes every word beyond the limit unreached.
-fn cut<const P: u32>(words: &mut Vec<Word<P>>, limit: u64)
-    ensures { words.new.items ≡ map (up_to limit) words.old.items }
-{
-    for place in 0..words.len() {
-        words[place] = up_to(words[place], limit);
-    }
-}
-
-// Makes every word beyond the limit unreached, if there is a limit.
-fn within<const P: u32>(mut words: Vec<Word<P>>, limit: Option<u64>) -> Vec<Word<P>>
-    ensures { result.items ≡ words_within limit words.entry.items }
-{
-    match limit {
-        Some(limit) => {
-            cut(&mut words, limit);
-            words
-        }
-        None => words,
-    }
 }
 
 /// Returns the distance of the farthest target, if each of them has one.
@@ -121,7 +89,7 @@ impl<const P: u32> RunWords<P> {
     {
         let _ = graph.n();
         let RunWords { words, far } = self;
-        let words = within(words, limit);
+        let words = words_within(words, limit);
         match far {
             Some(beyond) => Err(RunError::TooFar(beyond)),
             None => match Forest::of_words(alloc, words.as_slice()) {
@@ -132,50 +100,23 @@ impl<const P: u32> RunWords<P> {
     }
 
     /// Returns the answers for the targets of a source, in the order of the targets.
-    pub fn answers(
+    pub fn answers<A: TargetAnswer<P>>(
         &self,
         alloc: Global,
         graph: &Graph,
         source: u32,
         targets: &[u32],
-    ) -> Result<Vec<PairAnswer>, AllocError>
-        requires { AreTargetWords P graph.now source targets.now self.now.words.items self.now.far }
-        ensures { IfOk result
-            (λ answers. AreAnswersFor graph.now source (max_dist P) targets.now answers.items) }
+    ) -> Result<Vec<A>, AllocError>
+        requires source { IsVertex graph.now.n source }
+        requires words { AreTargetWords P graph.now source targets.now
+            self.now.words.items self.now.far }
+        ensures { IfOk result (λ answers.
+            AreAnswersBy (A.is_answer graph.now source) targets.now answers.items) }
     {
         let mut answers = Vec::with_capacity(alloc, targets.len())?;
         for target in targets {
-            let word = look_up(self.words.as_slice(), *target);
-            answers.push(PairAnswer::of_word(word, self.far))?;
+            answers.push(A::of_target(alloc, graph, self, source, *target)?)?;
         }
         Ok(answers)
-    }
-
-    /// Returns the route to a target, after a run from one source for this target, or for several with it: the vertices on the shortest
-    /// path, from the source to the target. It is none if no walk leads to the target, or none whose length fits a word.
-    ///
-    /// It takes as many steps as the route has vertices.
-    pub fn route(
-        &self,
-        alloc: Global,
-        graph: &Graph,
-        source: u32,
-        target: u32,
-    ) -> Result<Option<Vec<u32>>, AllocError>
-        requires source { IsVertex graph.now.n source }
-        requires words { AreTargetWords P graph.now source (target ∷ [])
-            self.now.words.items self.now.far }
-        ensures { IfOk result (λ found. MatchOption found
-            (IsNear graph.now source (max_dist P) target → ⊥)
-            (λ route. IsRouteUpTo graph.now source target (max_dist P) route.items)) }
-    {
-        let words = self.words.as_slice();
-        match look_up(words, target).dist() {
-            None => Ok(None),
-            Some(_) => {
-                let route = route_of(alloc, graph, words, source, target)?;
-                Ok(Some(route))
-            }
-        }
     }
 }

@@ -9,6 +9,7 @@ use Rattle.sp_jobs.specs.declared.answers.Summary.{Summary}
 use Rattle.sp_jobs.specs.declared.answers.BatchError.{BatchError}
 use Rattle.sp_jobs.specs.declared.answers.BatchError.TheVariants.{Gr, Ss, Targets, Pairs, NoSuchVertex, Memory, Write}
 use Rattle.sp_jobs.specs.Answered.{wrote_by}
+use Rattle.sp_jobs.specs.PairAnswers.{PairKind}
 use Rattle.sp_pairs.specs.Pairs.{PairsAnswered, PairsOfSome, MayFail}
 use Rattle.sp_command.specs.Causes.{IsBorneOut}
 use Rattle.sp_command.specs.Scene.{Files, IsOpened}
@@ -16,16 +17,16 @@ use Rattle.sp_options.specs.Ends.{fault_of}
 use Rattle.sp_cli.specs.declared.pairs.PairsCommand.{PairsCommand}
 use Rattle.sp_cli.specs.Told.{IsAnswered, NoVertex, scene_by}
 use Rattle.sp_cli.specs.Commands.{paths_in}
-use Rattle.sp_cli.specs.PairsAnswers.{PairsAnswers, IsOfPairs, IsOfSomePairs, pairs_paths}
+use Rattle.sp_cli.specs.PairsAnswers.{PairsAnswersOf, IsOfPairs, IsOfSomePairs, pairs_paths}
 use Rattle.sp_cli.proofs.Jobs.{any_far}
 
-module _ {G H W : Type 0} (g : Reader G) (h : Reader H) (w : Writer W) (P : ℕ) (way : Direction) (files : Files) (old new : W) where
-  of_some : (answer : Result Summary BatchError) → PairsOfSome P way (wrote_by w old new) answer → IsOfSomePairs P way (scene_by files w old new) answer
+module _ {G H W : Type 0} (kind : PairKind) (g : Reader G) (h : Reader H) (w : Writer W) (P : ℕ) (way : Direction) (files : Files) (old new : W) where
+  of_some : (answer : Result Summary BatchError) → PairsOfSome kind P way (wrote_by w old new) answer → IsOfSomePairs kind P way (scene_by files w old new) answer
   of_some (Ok summary) is = is
   of_some (Err error) is = tt
 
   -- What devices leave of texts that are refused is something.
-  told : (gr_text list_text : List ℕ) (gr : G) (pairs : H) (answer : Result Summary BatchError) → PairsAnswered P way gr_text list_text g gr h pairs (wrote_by w old new) answer → IsOfPairs P way gr_text list_text (scene_by files w old new) answer
+  told : (gr_text list_text : List ℕ) (gr : G) (pairs : H) (answer : Result Summary BatchError) → PairsAnswered kind P way gr_text list_text g gr h pairs (wrote_by w old new) answer → IsOfPairs kind P way gr_text list_text (scene_by files w old new) answer
   told gr_text list_text gr pairs (Ok summary) is = is
   told gr_text list_text gr pairs (Err (NoSuchVertex v role)) is = is
   told gr_text list_text gr pairs (Err Memory) is = is
@@ -37,7 +38,7 @@ module _ {G H W : Type 0} (g : Reader G) (h : Reader H) (w : Writer W) (P : ℕ)
 
   -- A fault is borne out by files that were opened.
   borne_out : (graph : List ℕ) (given : PairsCommand) (gr : G) (pairs : H) → IsOpened g files graph gr → IsOpened h files given.pairs.now pairs → (answer : Result Summary BatchError)
-      → IfErr answer (MayFail (g.failing gr) (h.failing pairs)) → PairsOfSome P way (wrote_by w old new) answer → IfErr answer (λ e. IsBorneOut (paths_in graph (pairs_paths given)) NoVertex (scene_by files w old new) (fault_of e))
+      → IfErr answer (MayFail (g.failing gr) (h.failing pairs)) → PairsOfSome kind P way (wrote_by w old new) answer → IfErr answer (λ e. IsBorneOut (paths_in graph (pairs_paths given)) NoVertex (scene_by files w old new) (fault_of e))
   borne_out graph given gr pairs gr_is pairs_are (Ok summary) may is = tt
   borne_out graph given gr pairs gr_is pairs_are (Err (NoSuchVertex v role)) may is = tt
   borne_out graph given gr pairs gr_is pairs_are (Err Memory) may is = tt
@@ -49,13 +50,13 @@ module _ {G H W : Type 0} (g : Reader G) (h : Reader H) (w : Writer W) (P : ℕ)
   borne_out graph given gr pairs gr_is pairs_are (Err (Targets e)) may (_, _, are) = absurd are.done
 
 -- What it answers, of what it answers to the devices that it is handed.
-pub of_pairs : {way : Direction} {G H W : Type 0} {g : Reader G} {h : Reader H} {files : Files} {graph : List ℕ} {gr : G} {pairs : H} (given : PairsCommand) (w : Writer W) (P : ℕ) (old new : W) (gr_left : G) (pairs_left : H) (answer : Result Summary BatchError)
+pub of_pairs : {kind : PairKind} {way : Direction} {G H W : Type 0} {g : Reader G} {h : Reader H} {files : Files} {graph : List ℕ} {gr : G} {pairs : H} (given : PairsCommand) (w : Writer W) (P : ℕ) (old new : W) (gr_left : G) (pairs_left : H) (answer : Result Summary BatchError)
     → IsOpened g files graph gr → IsOpened h files given.pairs.now pairs
-    → ((gr_text text : List ℕ) → g.left gr ≡ Some gr_text → h.left pairs ≡ Some text → PairsAnswered P way gr_text text g gr_left h pairs_left (wrote_by w old new) answer)
-    → PairsOfSome P way (wrote_by w old new) answer → IfErr answer (MayFail (g.failing gr) (h.failing pairs))
-    → IsAnswered (paths_in graph (pairs_paths given)) None (PairsAnswers P given way graph (scene_by files w old new)) (scene_by files w old new) answer
-of_pairs {way = way} {g = g} {h = h} {files = files} {graph = graph} {gr = gr} {pairs = pairs} given w P old new gr_left pairs_left answer gr_is pairs_are exact found may = record {
-  answered = (λ gr_text text gr_has text_has. told g h w P way files old new gr_text text gr_left pairs_left answer (exact gr_text text (gr_is.gives gr_text gr_has) (pairs_are.gives text text_has)), of_some g h w P way files old new answer found);
+    → ((gr_text text : List ℕ) → g.left gr ≡ Some gr_text → h.left pairs ≡ Some text → PairsAnswered kind P way gr_text text g gr_left h pairs_left (wrote_by w old new) answer)
+    → PairsOfSome kind P way (wrote_by w old new) answer → IfErr answer (MayFail (g.failing gr) (h.failing pairs))
+    → IsAnswered (paths_in graph (pairs_paths given)) None (PairsAnswersOf kind P given way graph (scene_by files w old new)) (scene_by files w old new) answer
+of_pairs {kind = kind} {way = way} {g = g} {h = h} {files = files} {graph = graph} {gr = gr} {pairs = pairs} given w P old new gr_left pairs_left answer gr_is pairs_are exact found may = record {
+  answered = (λ gr_text text gr_has text_has. told kind g h w P way files old new gr_text text gr_left pairs_left answer (exact gr_text text (gr_is.gives gr_text gr_has) (pairs_are.gives text text_has)), of_some kind g h w P way files old new answer found);
   near = any_far answer;
-  borne_out = borne_out g h w P way files old new graph given gr pairs gr_is pairs_are answer may found;
+  borne_out = borne_out kind g h w P way files old new graph given gr pairs gr_is pairs_are answer may found;
 }

@@ -14,7 +14,7 @@ use Rattle.sp_command.specs.Scene.{Files, Scene, IsUnwritten}
 use Rattle.sp_options.specs.Ends.{end_after, fault_of}
 use Rattle.sp_options.specs.Width.{IsBucket}
 use Rattle.sp_options.specs.Within.{IsLimit}
-use Rattle.sp_cli.specs.declared.command.GraphCommand.{GraphCommand}
+use Rattle.sp_cli.specs.declared.graph_command.GraphCommand.{GraphCommand}
 use Rattle.sp_cli.specs.Told.{IsAnswered, IsShut, IsTold, IsFinished, NoVertex}
 use Rattle.sp_cli.specs.Commands.{Answering, IsJobAnswer, faults_in}
 use Rattle.sp_cli.proofs.Near.{ends_near}

@@ -17,7 +17,7 @@ use Rattle.sp_options.specs.Running.{IsAskedFor, LacksOptions}
 use Rattle.sp_options.specs.Width.{IsBucket}
 use Rattle.sp_options.specs.Within.{IsLimit}
 use Rattle.sp_tools.specs.Words.{LacksValue}
-use Rattle.sp_cli.specs.declared.command.GraphCommand.{GraphCommand}
+use Rattle.sp_cli.specs.declared.graph_command.GraphCommand.{GraphCommand}
 use Rattle.sp_cli.specs.declared.context.CommandContext.{CommandContext}
 use Rattle.sp_cli.specs.Told.{Ends, IsTold, IsFinished, EndsNear, scene_by}
 

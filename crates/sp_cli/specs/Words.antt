@@ -1,9 +1,11 @@
 -- What a command line says of `tree`, `pairs`, `matrix` and `nearest`, besides the graph and the options.
-use Rattle.std.specs.Prelude.{◌⊎◌, ◌++◌, ℕ, List, ◌∷◌, Option, codes}
+use Rattle.std.specs.Prelude.{◌≡◌, ◌⊎◌, ◌++◌, ℕ, Bool, List, ◌∷◌, Option, Some, codes}
+use Rattle.clap.specs.Matches.{first_value}
 use Rattle.clap.specs.Walk.{Rule}
 use Rattle.clap.specs.declared.parser.matches.Found.{Found}
-use Rattle.sp_command.specs.Rules.{file_rule}
+use Rattle.sp_command.specs.Rules.{file_rule, flag_rule}
 use Rattle.sp_options.specs.declared.sources.Sources.{Sources}
+use Rattle.sp_options.specs.Numbers.{IsFlag}
 use Rattle.sp_options.specs.Rules.{lists_rules, mean_rule, running_rules, sources_rules, width_rule, within_rule}
 use Rattle.sp_options.specs.Sources.{AreNamed, NamesNone}
 use Rattle.sp_options.specs.Within.{HasLimit, LacksLimit}
@@ -16,7 +18,7 @@ tree_rules = file_rule (codes "GR") ∷ (sources_rules ++ within_rule ∷ width_
 
 -- The arguments of `pairs`.
 abbrev pub pairs_rules : List Rule
-pairs_rules = file_rule (codes "GR") ∷ file_rule (codes "PAIRS") ∷ width_rule ∷ running_rules
+pairs_rules = file_rule (codes "GR") ∷ file_rule (codes "PAIRS") ∷ flag_rule (codes "routes") ∷ width_rule ∷ running_rules
 
 -- The arguments of `matrix`.
 abbrev pub matrix_rules : List Rule
@@ -35,3 +37,10 @@ AreNamedWithin found sources limit = AreNamed found sources × HasLimit found li
 -- A command line names no sources, or its limit is invalid.
 abbrev pub LacksSources : Found → Type 0
 LacksSources found = NamesNone found ⊎ LacksLimit found
+
+-- ## Pairs
+
+-- A command line names this file of pairs, and asks for routes or doesn't.
+pub record NamesPairs (found : Found) (path : List ℕ) (routes : Bool) : Type 0 where
+  pub file : first_value found (codes "PAIRS") ≡ Some path
+  pub flag : IsFlag found (codes "routes") routes

@@ -3,7 +3,7 @@
 //! Each command is a type in a file of its own, in this crate or in one below it, with its arguments, its help and what
 //! it does. To add a command, write such a file, and add its type to `AnyCommand`. A command that runs a job in a graph
 //! is written as its own part of `GraphCommand`.
-use crate::command::GraphCommand;
+use crate::graph_command::GraphCommand;
 use crate::matrix::MatrixCommand;
 use crate::nearest::NearestCommand;
 use crate::pairs::PairsCommand;

@@ -5,9 +5,9 @@
 #![tactic(auto)]
 
 mod answer;
-mod command;
 mod commands;
 mod context;
+mod graph_command;
 mod laws;
 mod matrix;
 mod nearest;

@@ -2,23 +2,28 @@
 ghost use denote.Param.Send.{IsSync};
 ghost use Rattle.std.specs.Prelude.{◌≡◌, true, None, Some, codes};
 ghost use Rattle.sp_word.specs.Word.{is_layout};
-ghost use Rattle.sp_cli.specs.PairsAnswers.{PairsAnswers, pairs_paths};
+ghost use Rattle.sp_cli.specs.PairsAnswers.{PairsAnswers, PairsAnswersOf, pairs_paths};
 ghost use Rattle.clap.specs.Matches.{first_value};
 ghost use Rattle.sp_cli.specs.Commands.{EndsAt, IsPlaced, IsUntouched};
-ghost use Rattle.sp_cli.specs.Words.{pairs_rules};
+ghost use Rattle.sp_cli.specs.Words.{NamesPairs, pairs_rules};
 
 use crate::answer::GraphAnswer;
 use crate::by_handle;
 use crate::context::CommandContext;
 use clap::{ArgMatches, Error};
-use sp_command::{BuiltCommand, Command, Fault, FileKind, Inputs, after_help, file, graph_file};
+use sp_command::{
+    BuiltCommand, Command, Fault, FileKind, Inputs, after_help, file, flag, graph_file,
+};
 use sp_device::Write;
 use sp_jobs::{BatchError, BucketWidth, Progress, Summary};
-use sp_options::RunOptions;
-use sp_pairs::run_pairs_told;
+use sp_options::{RunOptions, flag_in};
+use sp_pairs::{PairAnswer, PairLine, RouteAnswer, run_pairs_told};
 use std::alloc::Global;
 use std::sync::Wait;
 use std::thread::Threads;
+
+// The flag that asks for routes.
+const ROUTES: &str = "routes";
 
 const WORKERS_LONG: &str = "\
 The maximum number of threads, from 1 to 64 including the main thread,
@@ -31,6 +36,8 @@ for a small graph. The output is the same for any number";
 pub struct PairsCommand<'a> {
     /// The path of the file of pairs.
     pub pairs: &'a str,
+    /// Whether the route is written for each pair, in place of the predecessor.
+    pub routes: bool,
 }
 
 impl<'a> Command<'a> for PairsCommand<'a> {
@@ -38,7 +45,7 @@ impl<'a> Command<'a> for PairsCommand<'a> {
 
     ghost rules = { pairs_rules };
 
-    ghost reads = { λ found given. first_value found (codes "PAIRS") ≡ Some given.pairs.now };
+    ghost reads = { λ found given. NamesPairs found given.pairs.now given.routes };
 
     ghost lacks = { λ found. first_value found (codes "PAIRS") ≡ None };
 
@@ -75,8 +82,13 @@ For each pair, in the order of the file, one line is written:
   n S T         T has no distance, and there is no such V: no path leads from S
                 to T
 
-It needs as much memory as `spt tree` does for one source, plus 28 bytes per
-pair.
+With --routes, a line of a pair that has a distance is
+  r S T D V ..  the distance, and the vertices of the route, from S to T; of all
+                shortest paths it is the one that takes the smallest vertex each
+                time, read from T backwards
+
+It needs at most as much memory as `spt tree` does for one source, plus 56 bytes
+per pair; with --routes, plus 128 bytes per pair and 4 per vertex of each route.
 
 Example: if diamond.gr is the graph of the example in `spt tree --help`, and
 diamond.pairs has the lines
@@ -87,6 +99,10 @@ diamond.pairs has the lines
 the output of `spt pairs diamond.gr diamond.pairs --delta 3` is
   d 1 4 5 2
   d 1 1 0 0
+  n 4 1
+and with --routes it is
+  r 1 4 5 1 2 4
+  r 1 1 0 1
   n 4 1
 
 An error in a file is reported with its line, as in
@@ -125,7 +141,12 @@ source: the first number above N, S before T; nothing is written.
     fn add_arguments(command: clap::Command<'a>, alloc: Global) -> BuiltCommand<'a> {
         let command = command
             .arg(graph_file(alloc))?
-            .arg(file(alloc, "PAIRS", "The pairs, a file of lines q S T"))?;
+            .arg(file(alloc, "PAIRS", "The pairs, a file of lines q S T"))?
+            .arg(flag(
+                alloc,
+                ROUTES,
+                "Write the vertices of the route for each pair",
+            ))?;
         RunOptions::add_to(command, alloc, WORKERS_LONG)
     }
 
@@ -133,7 +154,8 @@ source: the first number above N, S before T; nothing is written.
         let Some(pairs) = given.get_str("PAIRS") else {
             return Ok(None);
         };
-        Ok(Some(PairsCommand { pairs }))
+        let routes = flag_in(given, ROUTES);
+        Ok(Some(PairsCommand { pairs, routes }))
     }
 
     fn path_of(&self, file: FileKind) -> Option<&'a str> {
@@ -141,6 +163,31 @@ source: the first number above N, S before T; nothing is written.
             FileKind::Pairs => Some(self.pairs),
             _ => None,
         }
+    }
+}
+
+impl PairsCommand<'_> {
+    // Opens the files, and runs the job that writes these answers: words or routes.
+    fn answer_as<const P: u32, A: PairLine<P>, R: Threads + Wait + Sync, F: Inputs, W: Write>(
+        &self,
+        rt: &R,
+        alloc: Global,
+        place: &CommandContext<'_, F>,
+        width: BucketWidth<P>,
+        out: &mut W,
+    ) -> Result<Result<Summary, BatchError>, Fault>
+        requires run { (is_layout P ≡ true) × IsSync R.row }
+        requires limit { IsPlaced P None place.now }
+        ensures answered { EndsAt F.files (pairs_paths self.now) None
+            (PairsAnswersOf A.kind P self.now) place.now W.Write out.old out.new result }
+        ensures untouched { IsUntouched out.old out.new result }
+    {
+        let mut gr = place.open_graph()?;
+        let mut pairs = place.open(FileKind::Pairs, self.pairs)?;
+        let settings = place.settings::<P>(width);
+        by_handle!(rt, settings, handle => Ok(run_pairs_told::<P, A, _, _, _, _, _>(
+            handle, alloc, &mut gr, &mut pairs, out, &settings,
+        )))
     }
 }
 
@@ -179,12 +226,11 @@ impl<const P: u32> GraphAnswer<P> for PairsCommand<'_> {
             place.now W.Write out.old out.new result }
         ensures untouched { IsUntouched out.old out.new result }
     {
-        let mut gr = place.open_graph()?;
-        let mut pairs = place.open(FileKind::Pairs, self.pairs)?;
-        let settings = place.settings::<P>(width);
-        by_handle!(rt, settings, handle => Ok(run_pairs_told(
-            handle, alloc, &mut gr, &mut pairs, out, &settings,
-        )))
+        if self.routes {
+            self.answer_as::<P, RouteAnswer, R, F, W>(rt, alloc, place, width, out)
+        } else {
+            self.answer_as::<P, PairAnswer, R, F, W>(rt, alloc, place, width, out)
+        }
     }
 
     fn progress(_written: Summary, count: usize) -> Progress {

@@ -1,6 +1,6 @@
 -- One of two commands.
-use Rattle.sp_command.specs.declared.commands.OneOf.{OneOf}
-use Rattle.sp_command.specs.declared.commands.OneOf.TheVariants.{First, Second}
+use Rattle.sp_command.specs.declared.command.OneOf.{OneOf}
+use Rattle.sp_command.specs.declared.command.OneOf.TheVariants.{First, Second}
 
 -- This is what is said of that command.
 abbrev pub either_of {ℓ} : {A B : Type 0} {Said : Type ℓ} → (A → Said) → (B → Said) → OneOf A B → Said

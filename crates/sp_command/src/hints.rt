@@ -1,6 +1,6 @@
 //! The second lines of error messages: the system's reason, or advice.
 use crate::advice::Advice;
-use crate::commands::Commands;
+use crate::command::Commands;
 use crate::faults::{Fault, FileKind};
 use crate::inputs::Inputs;
 use crate::layout::PredBits;

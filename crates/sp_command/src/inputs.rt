@@ -38,10 +38,7 @@ pub trait Inputs {
 
     /// Returns whether the command's output goes to a terminal.
     fn is_shown(&self) -> bool
-        ensures { result ≡ true → (files self.now).may_show ≡ true }
-    {
-        false
-    }
+        ensures { (is : Bool) → (files self.now).shown ≡ Some is → result ≡ is };
 
     /// Returns whether the path of an output and the path of an input lead to the same regular file.
     fn is_same_file(&self, output: &str, input: &str) -> bool

@@ -8,13 +8,13 @@
 
 mod advice;
 mod arguments;
-mod commands;
+mod command;
+mod fault_lines;
 mod faults;
 mod help;
 mod hints;
 mod inputs;
 mod layout;
-mod lines;
 mod names;
 mod outputs;
 mod report;
@@ -24,7 +24,7 @@ mod usage;
 
 pub use advice::Advice;
 pub use arguments::{PLACES, file, flag, graph_file, valued};
-pub use commands::{BuiltCommand, Command, Commands, OneOf};
+pub use command::{BuiltCommand, Command, Commands, OneOf};
 pub use faults::{Fault, FileKind, Status};
 pub use hints::{Encoding, Hint, Naming, PlacesFault, hint_of, option_for, output_hint};
 pub use inputs::Inputs;

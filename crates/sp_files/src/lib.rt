@@ -24,7 +24,7 @@ pub use laws::{
     first_line_tells, forest_text_is_read, forest_texts_are_accepted, tree_text_is_exact,
     tree_texts_are_accepted,
 };
-pub use pair_lines::send_pair;
+pub use pair_lines::{send_pair, send_route};
 pub use reading::{
     FileReader, ForestReader, TreeReader, read_forest, read_tree, read_tree_or_forest,
 };

@@ -12,7 +12,7 @@ use Rattle.sp_paths.specs.Paths.{Graph, PairAnswer, IsPair}
 use Rattle.sp_answer.specs.declared.pair.PairAnswer.{PairAnswer as Found}
 use Rattle.sp_answer.specs.Pair.{answer_of}
 use Rattle.sp_jobs.specs.Told.{IsDue, IsWritten, told_text}
-use Rattle.sp_jobs.specs.PairAnswers.{ArePairAnswers, pairs_text, is_too_far}
+use Rattle.sp_jobs.specs.PairAnswers.{word_kind, ArePairAnswers, pairs_text, is_too_far}
 use Rattle.sp_jobs.specs.declared.row.Row.{Row}
 use Rattle.sp_jobs.specs.Matrix.{pairs_from}
 use Rattle.sp_jobs.specs.Row.{targets_in, answers_in, line_text, is_far_line, told_of_row, told_pairs, AreLines, IsRow, IsRowTold}
@@ -20,7 +20,7 @@ use Rattle.sp_jobs.specs.Row.{targets_in, answers_in, line_text, is_far_line, to
 -- ## Answers
 
 -- The answers to some pairs, and to those behind them.
-pub answers_both : (P : ℕ) (g : Graph) (front back : List (ℕ × ℕ)) (first second : List PairAnswer) → ArePairAnswers P g front first → ArePairAnswers P g back second → ArePairAnswers P g (front ++ back) (first ++ second)
+pub answers_both : (P : ℕ) (g : Graph) (front back : List (ℕ × ℕ)) (first second : List PairAnswer) → ArePairAnswers word_kind P g front first → ArePairAnswers word_kind P g back second → ArePairAnswers word_kind P g (front ++ back) (first ++ second)
 answers_both P g [] back [] second are more = more
 answers_both P g [] back (a ∷ first) second are more = absurd are
 answers_both P g (p ∷ front) back [] second are more = absurd are
@@ -42,7 +42,7 @@ lines_more P g s targets k lines answer less h is =
 
 -- ## What a row tells
 
-rows_text : (s : ℕ) (lines : List (ℕ × Found)) → flat_map (line_text s) lines ≡ pairs_text (pairs_from s (targets_in lines)) (answers_in lines)
+rows_text : (s : ℕ) (lines : List (ℕ × Found)) → flat_map (line_text s) lines ≡ pairs_text word_kind (pairs_from s (targets_in lines)) (answers_in lines)
 rows_text s [] = refl
 rows_text s (l ∷ lines) = ap (λ (text : List ℕ). line_text s l ++ text) (rows_text s lines)
 

@@ -12,19 +12,19 @@ use Rattle.sp_paths.proofs.SameArcs.{same_arcs_same_answers}
 use Rattle.sp_jobs.specs.Told.{WrittenAnswer, AreDue, count_of, far_of, text_of, told_text, HasBegunFirst}
 use Rattle.sp_jobs.proofs.ToldInOrder.{all_behind}
 use Rattle.sp_files.specs.PairText.{pair_text}
-use Rattle.sp_jobs.specs.PairAnswers.{ArePairAnswers, pairs_text, is_too_far, HasBegunPairs}
+use Rattle.sp_jobs.specs.PairAnswers.{word_kind, ArePairAnswers, pairs_text, is_too_far, HasBegunPairs}
 use Rattle.sp_jobs.specs.Matrix.{pairs_from, matrix_of}
 use Rattle.sp_jobs.specs.Row.{IsRowTold}
 use Rattle.sp_jobs.proofs.Lines.{answers_both}
 
 -- ## Texts
 
-text_both : (P : ℕ) (g : Graph) (front back : List (ℕ × ℕ)) (first second : List PairAnswer) → ArePairAnswers P g front first → pairs_text (front ++ back) (first ++ second) ≡ pairs_text front first ++ pairs_text back second
+text_both : (P : ℕ) (g : Graph) (front back : List (ℕ × ℕ)) (first second : List PairAnswer) → ArePairAnswers word_kind P g front first → pairs_text word_kind (front ++ back) (first ++ second) ≡ pairs_text word_kind front first ++ pairs_text word_kind back second
 text_both P g [] back [] second are = refl
 text_both P g [] back (a ∷ first) second are = absurd are
 text_both P g (p ∷ front) back [] second are = absurd are
 text_both P g (p ∷ front) back (a ∷ first) second are =
-    ap (λ (l : List ℕ). pair_text p a ++ l) (text_both P g front back first second are.1) ∙ sym (append_assoc (pair_text p a) (pairs_text front first) (pairs_text back second))
+    ap (λ (l : List ℕ). pair_text p a ++ l) (text_both P g front back first second are.1) ∙ sym (append_assoc (pair_text p a) (pairs_text word_kind front first) (pairs_text word_kind back second))
 
 far_both : (first second : List PairAnswer) → count_by is_too_far (first ++ second) ≡ count_by is_too_far first + count_by is_too_far second
 far_both first second = sum_by-append (λ (a : PairAnswer). cond (is_too_far a) 1 0) first second
@@ -34,8 +34,8 @@ far_both first second = sum_by-append (λ (a : PairAnswer). cond (is_too_far a) 
 -- The answers to the pairs of a matrix, and what they count.
 pub record AreTold (P : ℕ) (g : Graph) (sources targets : List ℕ) (all : List WrittenAnswer) : Type 0 where
   pub answers : List PairAnswer
-  pub are : ArePairAnswers P g (matrix_of sources targets) answers
-  pub text : told_text all ≡ pairs_text (matrix_of sources targets) answers
+  pub are : ArePairAnswers word_kind P g (matrix_of sources targets) answers
+  pub text : told_text all ≡ pairs_text word_kind (matrix_of sources targets) answers
   pub count : sum_by count_of all ≡ length (matrix_of sources targets)
   pub far : sum_by far_of all ≡ count_by is_too_far answers
 
@@ -45,11 +45,11 @@ row_more P g targets s sources told all first more =
     let rest = matrix_of sources targets in
     let counts : told.count ≡ length row = ap count_of first.tells in
     let fars : told.far ≡ count_by is_too_far first.answers = ap far_of first.tells in
-    let texts : told.text ≡ pairs_text row first.answers = ap text_of first.tells in
+    let texts : told.text ≡ pairs_text word_kind row first.answers = ap text_of first.tells in
     record {
       answers = first.answers ++ more.answers;
       are = answers_both P g row rest first.answers more.answers first.are more.are;
-      text = ap (λ (l : List ℕ). l ++ told_text all) texts ∙ (ap (λ (l : List ℕ). pairs_text row first.answers ++ l) more.text ∙ sym (text_both P g row rest first.answers more.answers first.are));
+      text = ap (λ (l : List ℕ). l ++ told_text all) texts ∙ (ap (λ (l : List ℕ). pairs_text word_kind row first.answers ++ l) more.text ∙ sym (text_both P g row rest first.answers more.answers first.are));
       count = sum_by-cons count_of told all ∙ omega (arith, counts, more.count, length-append row rest);
       far = sum_by-cons far_of told all ∙ omega (arith, fars, more.far, far_both first.answers more.answers);
     }
@@ -62,7 +62,7 @@ rows_told P g targets (s ∷ sources) (told ∷ all) are = row_more P g targets 
 
 -- ## Graphs with the same arcs
 
-pub same_answers : (P : ℕ) (g h : Graph) (pairs : List (ℕ × ℕ)) (answers : List PairAnswer) → AreSame g h → ArePairAnswers P g pairs answers → ArePairAnswers P h pairs answers
+pub same_answers : (P : ℕ) (g h : Graph) (pairs : List (ℕ × ℕ)) (answers : List PairAnswer) → AreSame g h → ArePairAnswers word_kind P g pairs answers → ArePairAnswers word_kind P h pairs answers
 same_answers P g h [] [] same are = are
 same_answers P g h [] (a ∷ answers) same are = absurd are
 same_answers P g h (p ∷ pairs) [] same are = absurd are
@@ -71,14 +71,14 @@ same_answers P g h (p ∷ pairs) (a ∷ answers) same are = ((same_arcs_same_ans
 -- ## All answers
 
 module _ (P : ℕ) (g : Graph) (gr : IsGraph g) where
-  row_exists : (s : ℕ) (targets : List ℕ) → IsVertex g.n s → All (IsVertex g.n) targets → (answers : List PairAnswer) × ArePairAnswers P g (pairs_from s targets) answers
+  row_exists : (s : ℕ) (targets : List ℕ) → IsVertex g.n s → All (IsVertex g.n) targets → (answers : List PairAnswer) × ArePairAnswers word_kind P g (pairs_from s targets) answers
   row_exists s [] in' all = ([], tt)
   row_exists s (t ∷ targets) in' all =
       let first = pairs_exist g s t (max_dist P) gr in' (all 0 0 (omega arith)) in
       let more = row_exists s targets in' (λ i d less. all (suc i) d (omega arith)) in
       (first.0 ∷ more.0, (first.1, more.1))
 
-  pub matrix_exists : (sources targets : List ℕ) → All (IsVertex g.n) sources → All (IsVertex g.n) targets → (answers : List PairAnswer) × ArePairAnswers P g (matrix_of sources targets) answers
+  pub matrix_exists : (sources targets : List ℕ) → All (IsVertex g.n) sources → All (IsVertex g.n) targets → (answers : List PairAnswer) × ArePairAnswers word_kind P g (matrix_of sources targets) answers
   matrix_exists [] targets starts ends = ([], tt)
   matrix_exists (s ∷ sources) targets starts ends =
       let first = row_exists s targets (starts 0 0 (omega arith)) ends in
@@ -87,7 +87,7 @@ module _ (P : ℕ) (g : Graph) (gr : IsGraph g) where
 
   -- What was begun with the first rows is a beginning with all.
   pub matrix_begun : (h : Graph) (sources targets : List ℕ) (old new : Option (List ℕ)) → AreSame h g → All (IsVertex g.n) sources → All (IsVertex g.n) targets
-      → HasBegunFirst (λ s told. IsRowTold P h targets s told) sources old new → HasBegunPairs P g (matrix_of sources targets) old new
+      → HasBegunFirst (λ s told. IsRowTold P h targets s told) sources old new → HasBegunPairs word_kind P g (matrix_of sources targets) old new
   matrix_begun h sources targets old new same starts ends b =
       let t = rows_told P h targets b.done b.all b.are in
       let front = matrix_of b.done targets in
@@ -98,5 +98,5 @@ module _ (P : ℕ) (g : Graph) (gr : IsGraph g) where
       rw parts (record {
         answers = t.answers ++ more.0;
         are = answers_both P g front back t.answers more.0 first more.1;
-        begun = rw (text_both P g front back t.answers more.0 first) (begun_more (pairs_text front t.answers) (pairs_text back more.0) old new (rw t.text at b.begun));
+        begun = rw (text_both P g front back t.answers more.0 first) (begun_more (pairs_text word_kind front t.answers) (pairs_text word_kind back more.0) old new (rw t.text at b.begun));
       })

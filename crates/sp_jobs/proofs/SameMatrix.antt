@@ -14,7 +14,7 @@ use Rattle.sp_jobs.specs.Listing.{AskedList, AreAsked}
 use Rattle.sp_jobs.proofs.Files.{itself}
 use Rattle.sp_jobs.proofs.Outcomes.{by_end, late}
 use Rattle.sp_jobs.specs.Told.{AreAllAnswered, HasBegunFirst}
-use Rattle.sp_jobs.specs.PairAnswers.{HasBegunPairs}
+use Rattle.sp_jobs.specs.PairAnswers.{word_kind, HasBegunPairs}
 use Rattle.sp_jobs.proofs.ToldInOrder.{none_begun}
 use Rattle.sp_jobs.specs.Matrix.{matrix_of, AreUpTo, IsMatrix, IsMatrixTo, IsMatrixToSome}
 use Rattle.sp_jobs.specs.Row.{IsRowTold}
@@ -32,7 +32,7 @@ vertices n list numbered within = λ i d less. (numbered.named i d less, within 
 
 module _ {W : Type 0} (P : ℕ) (g : Graph) (sources targets : List ℕ) (device : Writer W) (ok : AreLists g sources targets) where
   -- What was begun with the first rows of a graph with the same arcs is a beginning with all.
-  told_begun : (graph : Graph) (old new : Option (List ℕ)) → AreSame graph g → HasBegunFirst (λ s told. IsRowTold P graph targets s told) sources old new → HasBegunPairs P g (matrix_of sources targets) old new
+  told_begun : (graph : Graph) (old new : Option (List ℕ)) → AreSame graph g → HasBegunFirst (λ s told. IsRowTold P graph targets s told) sources old new → HasBegunPairs word_kind P g (matrix_of sources targets) old new
   told_begun graph old new same begun =
       matrix_begun P g ok.arcs graph sources targets old new same (vertices g.n sources ok.numbered_sources ok.within.each_source) (vertices g.n targets ok.numbered_targets ok.within.each_target) begun
 

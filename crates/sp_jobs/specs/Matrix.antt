@@ -9,7 +9,7 @@ use Rattle.sp_jobs.specs.declared.answers.Role.{Role}
 use Rattle.sp_jobs.specs.declared.answers.Role.TheVariants.{Target}
 use Rattle.sp_jobs.specs.Answered.{Wrote, IsEnd, wrote_by, IsUnwritten, JobAnswered, JobOfSome}
 use Rattle.sp_jobs.specs.Vertices.{IsFirstAbove, IsFirstSource}
-use Rattle.sp_jobs.specs.PairAnswers.{AreLinesWritten, HasBegunPairs}
+use Rattle.sp_jobs.specs.PairAnswers.{word_kind, AreLinesWritten, HasBegunPairs}
 use Rattle.sp_device.specs.declared.devices.Read.{Ghosts as Reader}
 use Rattle.sp_device.specs.declared.devices.Write.{Ghosts as Writer}
 use Rattle.sp_jobs.specs.declared.answers.BatchError.TheVariants.{Targets}
@@ -35,13 +35,13 @@ IsFirstOfLists n sources targets v role = IsFirstSource n sources v role ⊎ (Al
 
 -- All numbers are vertices, and of the lines of a matrix a beginning stands.
 abbrev pub AreLinesBegun : (P : ℕ) → Graph → (sources targets : List ℕ) → Wrote → Type 0
-AreLinesBegun P graph sources targets wrote = AreUpTo graph.n sources targets × HasBegunPairs P graph (matrix_of sources targets) wrote.before wrote.after
+AreLinesBegun P graph sources targets wrote = AreUpTo graph.n sources targets × HasBegunPairs word_kind P graph (matrix_of sources targets) wrote.before wrote.after
 
 -- For the pairs of a matrix exactly the lines were written that they have in a list of pairs; or a number is no vertex, and nothing was
 -- written; or memory was refused or the writer failed, and a beginning of the lines stands.
 abbrev pub IsMatrix : (P : ℕ) → (targets : List ℕ) → Wrote → Graph → (sources : List ℕ) → Result Summary BatchError → Type 0
 IsMatrix P targets wrote graph sources result =
-    IsEnd (AreLinesWritten P graph (matrix_of sources targets) wrote) (IsFirstOfLists graph.n sources targets) (AreLinesBegun P graph sources targets wrote) (AreLinesBegun P graph sources targets wrote) wrote result
+    IsEnd (AreLinesWritten word_kind P graph (matrix_of sources targets) wrote) (IsFirstOfLists graph.n sources targets) (AreLinesBegun P graph sources targets wrote) (AreLinesBegun P graph sources targets wrote) wrote result
 
 -- ## Answers to texts
 

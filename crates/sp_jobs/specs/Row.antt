@@ -7,7 +7,7 @@ use Rattle.sp_answer.specs.Pair.{answer_of}
 use Rattle.sp_jobs.specs.Ready.{IsReady}
 use Rattle.sp_jobs.specs.Told.{WrittenAnswer}
 use Rattle.sp_files.specs.PairText.{pair_text}
-use Rattle.sp_jobs.specs.PairAnswers.{ArePairAnswers, pairs_text, is_too_far}
+use Rattle.sp_jobs.specs.PairAnswers.{word_kind, ArePairAnswers, pairs_text, is_too_far}
 use Rattle.sp_jobs.specs.declared.row.Row.{Row}
 use Rattle.sp_jobs.specs.Matrix.{pairs_from}
 
@@ -34,7 +34,7 @@ told_of_row row = record { count = length row.lines.items; far = count_by is_far
 -- The lines are for these targets, in their order, and have the answers to their pairs with the source.
 pub record AreLines (P : ℕ) (g : Graph) (s : ℕ) (targets : List ℕ) (lines : List (ℕ × Found)) : Type 0 where
   pub in_order : targets_in lines ≡ targets
-  pub answers : ArePairAnswers P g (pairs_from s targets) (answers_in lines)
+  pub answers : ArePairAnswers word_kind P g (pairs_from s targets) (answers_in lines)
 
 -- The row is the source's, with these targets.
 pub record IsRow (P : ℕ) (g : Graph) (s : ℕ) (targets : List ℕ) (row : Row) : Type 0 where
@@ -43,12 +43,12 @@ pub record IsRow (P : ℕ) (g : Graph) (s : ℕ) (targets : List ℕ) (row : Row
 
 -- what the answers to pairs tell
 abbrev pub told_pairs : List (ℕ × ℕ) → List PairAnswer → WrittenAnswer
-told_pairs pairs answers = record { count = length pairs; far = count_by is_too_far answers; text = pairs_text pairs answers }
+told_pairs pairs answers = record { count = length pairs; far = count_by is_too_far answers; text = pairs_text word_kind pairs answers }
 
 -- The answers to the source's pairs with the targets tell that.
 pub record IsRowTold (P : ℕ) (g : Graph) (targets : List ℕ) (s : ℕ) (told : WrittenAnswer) : Type 0 where
   pub answers : List PairAnswer
-  pub are : ArePairAnswers P g (pairs_from s targets) answers
+  pub are : ArePairAnswers word_kind P g (pairs_from s targets) answers
   pub tells : told ≡ told_pairs (pairs_from s targets) answers
 
 -- The engine can run, source and targets are vertices, no more of them than a list may have, and the graph is within the limits of a run.

@@ -76,7 +76,10 @@ fn find_row<const P: u32, E: TeamEngine<P> + Drop>(
     }
     let (engine, graph) = (question.job.engine.by(workers), question.job.graph);
     let targets = question.targets;
-    let answers = answers_near(&engine, &question.pool, alloc, graph, source, targets)?;
+    let pool = &question.pool;
+    let answers = answers_near::<P, PairAnswer, _, _>(
+        &engine, pool, alloc, graph, source, targets,
+    )?;
     row_of::<P>(alloc, graph, source, targets, &answers)
 }
 

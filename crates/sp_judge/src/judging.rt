@@ -15,6 +15,13 @@ use sp_word::Word;
 use std::alloc::Global;
 use std::thread::Threads;
 
+/// A copy of the words that a team has lowered, and the lists of its workers' marks.
+#[derive(Clone, Copy)]
+pub struct MarkedWords<'w, const P: u32> {
+    pub words: &'w [Word<P>],
+    pub marks: &'w [Vec<Mark>],
+}
+
 // Returns the distance up to which arcs bear on what is asked: the limit, or the distance of the farthest target. If there is
 // neither, all arcs do.
 fn bearing<const P: u32>(words: &[Word<P>], until: Until) -> Option<u64>
@@ -50,15 +57,17 @@ pub fn judge_by<R: Threads + Sync, const P: u32>(
     alloc: Global,
     graph: &Graph,
     run: RunRequest,
-    words: &[Word<P>],
-    marks: &[Vec<Mark>],
+    copy: MarkedWords<P>,
     threads: u32,
 ) -> Scan
-    requires words { CanJudge P graph.now run.sources.now run.until words.now }
-    requires marks { AreTrueMarks (max_dist P) graph.now (word_at words.now) marks.now }
-    ensures { ShowsAsked P graph.now run.entry.sources.now run.entry.until words.now result }
+    requires words { CanJudge P graph.now run.sources.now run.until copy.words.now }
+    requires marks { AreTrueMarks (max_dist P)
+        graph.now (word_at copy.words.now) copy.marks.now }
+    ensures { ShowsAsked P graph.now
+        run.entry.sources.now run.entry.until copy.entry.words.now result }
 {
     let _ = graph.n();
+    let MarkedWords { words, marks } = copy;
     match judge_near(graph, run, words) {
         Some(scan) => scan,
         None => scan_unmarked(rt, alloc, words, graph, marks, threads),

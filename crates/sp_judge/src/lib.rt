@@ -21,7 +21,7 @@ mod random;
 mod scan;
 
 pub use finishing::settle;
-pub use judging::{are_answers, judge_by};
+pub use judging::{MarkedWords, are_answers, judge_by};
 pub use lowering::relax;
 pub use plain::{Answer, plain_tree};
 pub use random::{GraphKind, Random, random_graph};

@@ -1,5 +1,6 @@
 mod Blocks
 pub mod Forests
 mod Rows
+mod RouteLists
 mod Layouts
 mod RowCells

@@ -6,3 +6,4 @@ pub mod PartQuestion
 pub mod Listed
 pub mod ForestQuestion
 pub mod Matrix
+pub mod Routes

@@ -5,9 +5,9 @@
 mod arcs;
 mod directions;
 mod faults;
+mod file_formats;
 mod laws;
 mod network;
-mod networks;
 mod turned_laws;
 mod turning;
 mod ways;
@@ -15,12 +15,12 @@ mod ways;
 pub use arcs::{insert_turned, turn, turn_by, turned_arc};
 pub use directions::Direction;
 pub use faults::NetworkFault;
+pub use file_formats::read_network;
 pub use laws::{
     a_text_spells_one_network, directions_are_those_of_graphs, lines_spell_their_network,
     words_spell_their_network,
 };
 pub use network::Network;
-pub use networks::read_network;
 pub use sp_dimacs::GrFile;
 pub use turned_laws::{both_ways_turned, both_ways_walks, turned_twice, turned_walks};
 pub use turning::{turned, turned_alone};

@@ -16,6 +16,7 @@ mod within;
 mod workers;
 
 pub use directions::{add_directions, read_direction};
+pub use flags::flag_in;
 pub use given::Given;
 pub use lists::Lists;
 pub use reading::Watched;

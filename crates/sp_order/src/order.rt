@@ -146,7 +146,7 @@ fn told_of_all<'a>(alloc: Global) -> Command<'a>
     ensures { app_of result ≡ bare_app }
 {
     Command::new(alloc, "spt")
-        .version("1.5.0")
+        .version("1.6.0")
         .about(help::PROGRAM)
         .after_help(help::PROGRAM_MORE)
         .subcommand_required(true)

@@ -9,27 +9,27 @@ use Rattle.sp_jobs.specs.declared.answers.Summary.{Summary}
 use Rattle.sp_jobs.specs.declared.answers.BatchError.{BatchError}
 use Rattle.sp_jobs.specs.Network.{GraphFault}
 use Rattle.sp_jobs.specs.Answered.{Wrote, IsUnwritten}
-use Rattle.sp_jobs.specs.PairAnswers.{AreLinesWritten, HasBegunPairs}
+use Rattle.sp_jobs.specs.PairAnswers.{PairKind, AreLinesWritten, HasBegunPairs}
 use Rattle.sp_jobs.proofs.Outcomes.{IsLate, by_end, late}
 use Rattle.sp_pairs.specs.Pairs.{IsPairUpTo, IsFirstPairAbove, ArePairsDone, ArePairsOf, PairsTold, PairsOfSome, MayFail}
 
 -- What was done for a graph and pairs is no fault of a text.
-pub pairs_late : (P : ℕ) (wrote : Wrote) (graph : Graph) (pairs : List (ℕ × ℕ)) (result : Result Summary BatchError) → ArePairsDone P wrote graph pairs result → IsLate result
-pairs_late P wrote graph pairs result is =
-    late (AreLinesWritten P graph pairs wrote) (IsFirstPairAbove graph.n pairs) (All (IsPairUpTo graph.n) pairs × IsUnwritten wrote) (All (IsPairUpTo graph.n) pairs × HasBegunPairs P graph pairs wrote.before wrote.after) wrote result is
+pub pairs_late : (kind : PairKind) (P : ℕ) (wrote : Wrote) (graph : Graph) (pairs : List (ℕ × ℕ)) (result : Result Summary BatchError) → ArePairsDone kind P wrote graph pairs result → IsLate result
+pairs_late kind P wrote graph pairs result is =
+    late (AreLinesWritten kind P graph pairs wrote) (IsFirstPairAbove graph.n pairs) (All (IsPairUpTo graph.n) pairs × IsUnwritten wrote) (All (IsPairUpTo graph.n) pairs × HasBegunPairs kind P graph pairs wrote.before wrote.after) wrote result is
 
-module _ (P : ℕ) (way : Direction) (gr_text list_text : List ℕ) (wrote : Wrote) (result : Result Summary BatchError) (are : ArePairsOf P way gr_text list_text wrote result) where
+module _ (kind : PairKind) (P : ℕ) (way : Direction) (gr_text list_text : List ℕ) (wrote : Wrote) (result : Result Summary BatchError) (are : ArePairsOf kind P way gr_text list_text wrote result) where
   is_late : IsLate result
-  is_late = pairs_late P wrote are.graph are.list.pairs.items result are.done
+  is_late = pairs_late kind P wrote are.graph are.list.pairs.items result are.done
 
   -- It is the answer to texts that spell them.
-  pub pairs_told : (NoGraph : GraphFault → Type 0) (NoList : DimacsError → Type 0) → PairsTold P way gr_text list_text NoGraph NoList wrote result
+  pub pairs_told : (NoGraph : GraphFault → Type 0) (NoList : DimacsError → Type 0) → PairsTold kind P way gr_text list_text NoGraph NoList wrote result
   pairs_told NoGraph NoList =
-      by_end (λ r. ArePairsOf P way gr_text list_text wrote r → PairsTold P way gr_text list_text NoGraph NoList wrote r) result is_late (λ summary done. done) (λ v role done. done) (λ done. done) (λ done. done) are
+      by_end (λ r. ArePairsOf kind P way gr_text list_text wrote r → PairsTold kind P way gr_text list_text NoGraph NoList wrote r) result is_late (λ summary done. done) (λ v role done. done) (λ done. done) (λ done. done) are
 
-  pub pairs_of_some : PairsOfSome P way wrote result
+  pub pairs_of_some : PairsOfSome kind P way wrote result
   pairs_of_some =
-      by_end (λ r. ArePairsOf P way gr_text list_text wrote r → PairsOfSome P way wrote r) result is_late
+      by_end (λ r. ArePairsOf kind P way gr_text list_text wrote r → PairsOfSome kind P way wrote r) result is_late
       (λ summary done. (gr_text, list_text, done)) (λ v role done. (gr_text, list_text, done)) (λ done. (gr_text, list_text, done)) (λ done. (gr_text, list_text, done)) are
 
 -- It tells of no device.

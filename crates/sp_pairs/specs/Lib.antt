@@ -1,3 +1,4 @@
 pub mod Pairs
 pub mod Slots
 pub mod Near
+pub mod SameTold

@@ -1,51 +1,36 @@
 -- What is known of pairs while their answers are found.
-use Rattle.std.specs.Prelude.{◌≡◌, ◌<◌, ℕ, List, length, true, slice_index, slice_index_or, All, Result, Ok, Err}
+use Rattle.std.specs.Prelude.{◌≡◌, ◌<◌, ℕ, Bool, true, false, List, [], ◌∷◌, length, slice_index, slice_index_or, All, Result, Ok, Err}
 use Rattle.std.specs.Io.KnownBytes.{Appends}
 use Rattle.sp_device.specs.declared.devices.Write.{Ghosts as Writer}
 use Rattle.sp_device.specs.Devices.{IsBegun}
 use Rattle.sp_jobs.specs.declared.answers.Summary.{Summary}
 use Rattle.sp_jobs.specs.declared.answers.BatchError.{BatchError}
 use Rattle.sp_jobs.specs.declared.answers.BatchError.TheVariants.{Write}
-use Rattle.sp_paths.specs.Paths.{Graph, IsVertex, PairAnswer}
-use Rattle.sp_paths.specs.Paths.{Found as FoundPair, TooFar as FarVertex, NoWalk as NoWay}
-use Rattle.sp_answer.specs.declared.pair.PairAnswer.{PairAnswer as Told}
-use Rattle.sp_answer.specs.declared.pair.PairAnswer.TheVariants as told
+use Rattle.sp_paths.specs.Paths.{Graph, IsVertex}
 use Rattle.sp_pairs.specs.declared.asking.PairState.{PairState}
-use Rattle.sp_pairs.specs.declared.asking.PairState.TheVariants.{Open, Found, TooFar, NoWalk}
-use Rattle.sp_jobs.specs.PairAnswers.{IsAnswerToPair, pairs_text, IsPairsSummary}
+use Rattle.sp_pairs.specs.declared.asking.PairState.TheVariants.{Open, Known}
+use Rattle.sp_jobs.specs.PairAnswers.{PairKind, pairs_text, IsPairsSummary}
 
 -- ## One slot
 
+-- when something is the answer for a target of a source in a graph
+abbrev pub AnswerIn : Type 0 → Type 1
+AnswerIn A = Graph → (s t : ℕ) → A → Type 0
+
 -- no answer is known
-abbrev pub IsOpen : PairState → Type 0
+abbrev pub IsOpen : {A : Type 0} → PairState A → Type 0
 IsOpen (Open next) = Unit {0}
-IsOpen (Found p d) = ⊥
-IsOpen (TooFar v) = ⊥
-IsOpen NoWalk = ⊥
+IsOpen (Known answer) = ⊥
 
 -- an answer is known
-abbrev pub IsClosed : PairState → Type 0
+abbrev pub IsClosed : {A : Type 0} → PairState A → Type 0
 IsClosed (Open next) = ⊥
-IsClosed (Found p d) = Unit {0}
-IsClosed (TooFar v) = Unit {0}
-IsClosed NoWalk = Unit {0}
-
--- the answer that is known; of an open slot there is none, and that no walk leads there stands for it
-abbrev pub answer_in : PairState → PairAnswer
-answer_in (Open next) = NoWay
-answer_in (Found p d) = FoundPair d p
-answer_in (TooFar v) = FarVertex v
-answer_in NoWalk = NoWay
-
--- the slot of an answer
-abbrev pub slot_of : Told → PairState
-slot_of (told.Found d p) = Found p d
-slot_of (told.TooFar v) = TooFar v
-slot_of told.NoWalk = NoWalk
+IsClosed (Known answer) = Unit {0}
 
 -- where an answer is known, it is the pair's
-abbrev pub IsHeld : (P : ℕ) → Graph → ℕ × ℕ → PairState → Type 0
-IsHeld P g pair slot = IsClosed slot → IsAnswerToPair P g pair (answer_in slot)
+abbrev pub IsHeld : {A : Type 0} → AnswerIn A → Graph → ℕ × ℕ → PairState A → Type 0
+IsHeld Is g pair (Open next) = Unit {0}
+IsHeld Is g pair (Known answer) = Is g pair.0 pair.1 answer
 
 -- ## All slots
 
@@ -58,25 +43,25 @@ abbrev pub IsPairOf : (n : ℕ) → ℕ × ℕ → Type 0
 IsPairOf n pair = IsVertex n pair.0 × IsVertex n pair.1
 
 -- Each pair has a slot, and no answer is known.
-pub record AreAllOpen (pairs : List (ℕ × ℕ)) (slots : List PairState) : Type 0 where
+pub record AreAllOpen {A : Type 0} (pairs : List (ℕ × ℕ)) (slots : List (PairState A)) : Type 0 where
   pub size : length slots ≡ length pairs
   pub each : All IsOpen slots
 
 -- Each pair has a slot, and the answers that are known are the pairs'.
-pub record AreHeld (P : ℕ) (g : Graph) (pairs : List (ℕ × ℕ)) (slots : List PairState) : Type 0 where
+pub record AreHeld {A : Type 0} (Is : AnswerIn A) (g : Graph) (pairs : List (ℕ × ℕ)) (slots : List (PairState A)) : Type 0 where
   pub size : length slots ≡ length pairs
-  pub held : (i : ℕ) (slot : PairState) → i < length slots → IsHeld P g (pair_at pairs i) (slice_index_or slots i slot)
+  pub held : (i : ℕ) (slot : PairState A) → i < length slots → IsHeld Is g (pair_at pairs i) (slice_index_or slots i slot)
 
 -- The answer at this place is known.
-abbrev pub IsClosedAt : (place : ℕ) → List PairState → Type 0
-IsClosedAt place slots = (slot : PairState) → IsClosed (slice_index_or slots place slot)
+abbrev pub IsClosedAt : {A : Type 0} → (place : ℕ) → List (PairState A) → Type 0
+IsClosedAt {A} place slots = (slot : PairState A) → IsClosed (slice_index_or slots place slot)
 
 -- Of the first pairs the answers are known.
-abbrev pub AreFirstClosed : (count : ℕ) → List PairState → Type 0
+abbrev pub AreFirstClosed : {A : Type 0} → (count : ℕ) → List (PairState A) → Type 0
 AreFirstClosed count slots = (i : ℕ) → i < count → i < length slots → IsClosedAt i slots
 
 -- What was known stays known.
-pub record StayClosed (old new : List PairState) : Type 0 where
+pub record StayClosed {A : Type 0} (old new : List (PairState A)) : Type 0 where
   pub size : length new ≡ length old
   pub stay : (i : ℕ) → i < length old → IsClosedAt i old → IsClosedAt i new
 
@@ -93,16 +78,26 @@ pub record AreTargetsOf (n : ℕ) (pair : ℕ × ℕ) (targets : List ℕ) : Typ
   pub first : slice_index targets 0 ≡ pair.1
   pub vertices : All (IsVertex n) targets
 
--- The run is from the pair's source, and the target at this place is the pair's.
-pub record IsFor (pair : ℕ × ℕ) (k s : ℕ) (targets : List ℕ) : Type 0 where
-  pub source : s ≡ pair.0
-  pub within : k < length targets
-  pub target : slice_index targets k ≡ pair.1
-
 -- ## Lines
 
+-- the answers that are known, in their order
+abbrev pub known_in : {A : Type 0} → List (PairState A) → List A
+known_in [] = []
+known_in (Open next ∷ slots) = known_in slots
+known_in (Known answer ∷ slots) = answer ∷ known_in slots
+
+-- the line of a pair, if its answer is known and tells that
+abbrev pub line_in : {A : Type 0} → (kind : PairKind) → (A → kind.Answer) → ℕ × ℕ → PairState A → List ℕ
+line_in kind told pair (Open next) = []
+line_in kind told pair (Known answer) = kind.text pair (told answer)
+
+-- the answer is known, and tells a vertex that is too far
+abbrev pub is_far_slot : {A : Type 0} → (kind : PairKind) → (A → kind.Answer) → PairState A → Bool
+is_far_slot kind told (Open next) = false
+is_far_slot kind told (Known answer) = kind.is_too_far (told answer)
+
 -- Exactly the text of the answers was written, and it was counted; or the writer failed, and a beginning of the text stands.
-abbrev pub ArePairsWritten : {W : Type 0} → Writer W → List (ℕ × ℕ) → List PairAnswer → W → Result Summary BatchError → W → Type 0
-ArePairsWritten device pairs answers old (Ok summary) new = Appends (device.written old) (device.written new) (pairs_text pairs answers) × IsPairsSummary pairs answers summary
-ArePairsWritten device pairs answers old (Err Write) new = IsBegun (pairs_text pairs answers) (device.written old) (device.written new) × (device.has_failed new ≡ true)
-ArePairsWritten device pairs answers old (Err e) new = ⊥
+abbrev pub ArePairsWritten : {W : Type 0} → (kind : PairKind) → Writer W → List (ℕ × ℕ) → List kind.Answer → W → Result Summary BatchError → W → Type 0
+ArePairsWritten kind device pairs answers old (Ok summary) new = Appends (device.written old) (device.written new) (pairs_text kind pairs answers) × IsPairsSummary kind pairs answers summary
+ArePairsWritten kind device pairs answers old (Err Write) new = IsBegun (pairs_text kind pairs answers) (device.written old) (device.written new) × (device.has_failed new ≡ true)
+ArePairsWritten kind device pairs answers old (Err e) new = ⊥

@@ -1,11 +1,11 @@
 //! The answers for pairs, found by one search or run from each source.
 ghost use Rattle.std.specs.Prelude.{◌≡◌, ◌+◌, ◌<◌, false, length, All, IfOk, IfSome};
-ghost use Rattle.sp_word.specs.Word.{max_dist};
-ghost use Rattle.sp_answer.specs.Run.{AreAnswersFor};
+ghost use Rattle.sp_answer.specs.Run.{AreAnswersBy};
 ghost use Rattle.sp_jobs.specs.Ready.{IsReady};
-ghost use Rattle.sp_pairs.specs.Slots.{IsClosed, slot_of, IsPairOf, AreAllOpen, pair_at, AreHeld, AreFirstClosed, StayClosed, IsPlaceBehind, AreTargetsOf, IsFor, IsClosedAt};
+ghost use Rattle.sp_pairs.specs.Slots.{IsOpen, IsClosed, IsPairOf, AreAllOpen, pair_at, AreHeld, AreFirstClosed, StayClosed, IsPlaceBehind, AreTargetsOf, IsClosedAt};
 
-use sp_answer::{Engine, PairAnswer};
+use crate::told::PairLine;
+use sp_answer::Engine;
 use sp_graph::Graph;
 use sp_jobs::{Job, Listener, Progress};
 use sp_serial::{SearchPool, answers_near};
@@ -15,38 +15,23 @@ use std::alloc::{AllocError, Global};
 // take longer.
 const FEW: usize = 64;
 
-/// What is known of a pair, in 16 bytes. The fields are in memory in the order in which they are declared.
-#[derive(Clone, Copy)]
-pub(crate) enum PairState {
+/// What is known of a pair.
+#[derive(Drop)]
+pub(crate) enum PairState<A> {
     /// The answer isn't known yet. The next pair of the same source is at this place. If there is none, it is the
     /// number of pairs.
     Open { next: usize },
-    /// The target has this word in the tree.
-    Found { pred: u32, dist: u64 },
-    /// The target has no word, and this is the smallest vertex that is too far.
-    TooFar(u32),
-    /// No walk leads to the target.
-    NoWalk,
-}
-
-/// Returns the slot that holds this answer.
-pub(crate) fn slot_of(answer: PairAnswer) -> PairState
-    ensures { result ≡ slot_of answer }
-{
-    match answer {
-        PairAnswer::Found { dist, pred } => PairState::Found { pred, dist },
-        PairAnswer::TooFar(vertex) => PairState::TooFar(vertex),
-        PairAnswer::NoWalk => PairState::NoWalk,
-    }
+    /// This is the answer.
+    Known(A),
 }
 
 // Returns whether the answer isn't known yet.
-fn is_open(slot: &PairState) -> bool
+fn is_open<A>(slot: &PairState<A>) -> bool
     ensures { result ≡ false → IsClosed slot.now }
 {
     match slot {
         PairState::Open { .. } => true,
-        PairState::Found { .. } | PairState::TooFar(_) | PairState::NoWalk => false,
+        PairState::Known(_) => false,
     }
 }
 
@@ -64,10 +49,10 @@ fn place_behind(pairs: &[(u32, u32)], place: usize) -> usize
 }
 
 // Makes an open slot for each of a few pairs, without a table.
-fn open_few(alloc: Global, pairs: &[(u32, u32)]) -> Result<Vec<PairState>, AllocError>
+fn open_few<A: Drop>(alloc: Global, pairs: &[(u32, u32)]) -> Result<Vec<PairState<A>>, AllocError>
     ensures { IfOk result (λ slots. AreAllOpen pairs.now slots.items) }
 {
-    let mut slots = Vec::new(alloc);
+    let mut slots = Vec::with_capacity(alloc, pairs.len())?;
     for place in 0..pairs.len() {
         slots.push(PairState::Open {
             next: place_behind(pairs, place),
@@ -76,9 +61,27 @@ fn open_few(alloc: Global, pairs: &[(u32, u32)]) -> Result<Vec<PairState>, Alloc
     Ok(slots)
 }
 
+// Makes an open slot for each pair, as if no other pair had its source.
+fn open_single<A: Drop>(
+    alloc: Global,
+    pairs: &[(u32, u32)],
+) -> Result<Vec<PairState<A>>, AllocError>
+    ensures { IfOk result (λ slots. AreAllOpen pairs.now slots.items) }
+{
+    let mut slots = Vec::with_capacity(alloc, pairs.len())?;
+    for _ in 0..pairs.len() {
+        slots.push(PairState::Open { next: pairs.len() })?;
+    }
+    Ok(slots)
+}
+
 // Makes an open slot for each pair. It goes from the last pair to the first, with a table that says for each vertex
 // where the next pair with this source is.
-fn open_slots(alloc: Global, n: u32, pairs: &[(u32, u32)]) -> Result<Vec<PairState>, AllocError>
+fn open_slots<A: Drop>(
+    alloc: Global,
+    n: u32,
+    pairs: &[(u32, u32)],
+) -> Result<Vec<PairState<A>>, AllocError>
     requires { All (IsPairOf n) pairs.now }
     ensures { IfOk result (λ slots. AreAllOpen pairs.now slots.items) }
 {
@@ -87,7 +90,7 @@ fn open_slots(alloc: Global, n: u32, pairs: &[(u32, u32)]) -> Result<Vec<PairSta
         return open_few(alloc, pairs);
     }
     let mut next_of_source = vec![in alloc; count; n as usize]?;
-    let mut slots = vec![in alloc; PairState::Open { next: count }; count]?;
+    let mut slots = open_single(alloc, pairs)?;
     for done in 0..count {
         let place = count - 1 - done;
         let source = pairs[place].0 as usize - 1;
@@ -100,14 +103,15 @@ fn open_slots(alloc: Global, n: u32, pairs: &[(u32, u32)]) -> Result<Vec<PairSta
 }
 
 // Returns the place of the next pair with the same source, if there is one.
-fn next_place(pairs: &[(u32, u32)], slots: &[PairState], place: usize) -> Option<usize>
+fn next_place<A>(pairs: &[(u32, u32)], slots: &[PairState<A>], place: usize) -> Option<usize>
     requires here { place < length pairs.now }
     requires size { length slots.now ≡ length pairs.now }
     ensures { IfSome result (IsPlaceBehind place pairs.now) }
 {
-    let PairState::Open { next } = slots[place] else {
+    let PairState::Open { next } = &slots[place] else {
         return None;
     };
+    let next = *next;
     if next > place && next < pairs.len() && pairs[next].0 == pairs[place].0 {
         return Some(next);
     }
@@ -115,11 +119,11 @@ fn next_place(pairs: &[(u32, u32)], slots: &[PairState], place: usize) -> Option
 }
 
 // Returns the target of the pair at a place, and those of the later pairs with the same source.
-fn targets_from(
+fn targets_from<A>(
     alloc: Global,
     graph: &Graph,
     pairs: &[(u32, u32)],
-    slots: &[PairState],
+    slots: &[PairState<A>],
     place: usize,
 ) -> Result<Vec<u32>, AllocError>
     requires here { place < length pairs.now }
@@ -138,80 +142,74 @@ fn targets_from(
     Ok(targets)
 }
 
-// The answers for the targets of a source, in their order.
-#[derive(Clone, Copy)]
-struct Known<'k> {
-    source: u32,
-    targets: &'k [u32],
-    answers: &'k [PairAnswer],
-}
-
-// Keeps the answer for target number `k` as that of the pair at a place, if it belongs to that pair.
-fn keep_answer<const P: u32>(
+// Keeps the answer for a pair as that of the pair at a place, if they are the same.
+fn keep_answer<const P: u32, A: PairLine<P>>(
     graph: &Graph,
-    known: Known,
+    pair: (u32, u32),
+    answer: A,
     pairs: &[(u32, u32)],
-    slots: &mut Vec<PairState>,
+    slots: &mut Vec<PairState<A>>,
     place: usize,
-    k: usize,
 )
-    requires known { AreAnswersFor graph.now known.source (max_dist P)
-        known.targets.now known.answers.now }
-    requires size { length known.answers.now ≡ length known.targets.now }
-    requires k { k < length known.targets.now }
+    requires answer { A.is_answer graph.now pair.0 pair.1 answer }
     requires here { place < length pairs.now }
-    requires held { AreHeld P graph.now pairs.now slots.old.items }
-    ensures held { AreHeld P graph.now pairs.now slots.new.items }
+    requires held { AreHeld A.is_answer graph.now pairs.now slots.old.items }
+    ensures held { AreHeld A.is_answer graph.now pairs.now slots.new.items }
     ensures stay { StayClosed slots.old.items slots.new.items }
-    ensures closed { IsFor (pair_at pairs.now place) k known.entry.source known.entry.targets.now
+    ensures closed { (pair_at pairs.now place).0 ≡ pair.0 → (pair_at pairs.now place).1 ≡ pair.1
         → IsClosedAt place slots.new.items }
 {
     let (source, target) = pairs[place];
-    if source == known.source && target == known.targets[k] {
-        slots[place] = slot_of(known.answers[k]);
+    if source == pair.0 && target == pair.1 {
+        slots[place] = PairState::Known(answer);
     }
 }
 
-// Keeps the answers that were found for the pair at a place and for the later pairs with the same source.
-fn keep_answers<const P: u32>(
+// Keeps the answers that were found for the pair at a place and for the later pairs with the same source. They are
+// moved out of their list.
+fn keep_answers<const P: u32, A: PairLine<P>>(
     graph: &Graph,
-    known: Known,
+    targets: &[u32],
+    answers: Vec<A>,
     pairs: &[(u32, u32)],
-    slots: &mut Vec<PairState>,
+    slots: &mut Vec<PairState<A>>,
     place: usize,
 )
-    requires known { AreAnswersFor graph.now known.source (max_dist P)
-        known.targets.now known.answers.now }
-    requires size { length known.answers.now ≡ length known.targets.now }
     requires here { place < length pairs.now }
-    requires held { AreHeld P graph.now pairs.now slots.old.items }
+    requires targets { AreTargetsOf graph.now.n (pair_at pairs.now place) targets.now }
+    requires answers { AreAnswersBy (A.is_answer graph.now (pair_at pairs.now place).0)
+        targets.now answers.items }
+    requires held { AreHeld A.is_answer graph.now pairs.now slots.old.items }
     requires first { AreFirstClosed place slots.old.items }
-    requires asked { IsFor (pair_at pairs.now place) 0 known.source known.targets.now }
-    ensures held { AreHeld P graph.now pairs.now slots.new.items }
+    ensures held { AreHeld A.is_answer graph.now pairs.now slots.new.items }
     ensures first { AreFirstClosed (place + 1) slots.new.items }
 {
+    let source = pairs[place].0;
     let mut at = place;
-    for k in 0..known.targets.len() {
+    let mut k = 0;
+    for answer in answers {
         let next = next_place(pairs, slots, at);
-        keep_answer::<P>(graph, known, pairs, slots, at, k);
-        match next {
-            Some(place) => at = place,
-            None => return,
-        }
+        keep_answer::<P, A>(graph, (source, targets[k]), answer, pairs, slots, at);
+        let Some(behind) = next else {
+            return;
+        };
+        at = behind;
+        k += 1;
     }
 }
 
 /// Finds the answers for pairs, in their order.
-pub(crate) fn find_answers<const P: u32, E: Engine<P>, L: Listener>(
+pub(crate) fn find_answers<const P: u32, A: PairLine<P>, E: Engine<P>, L: Listener>(
     alloc: Global,
     job: &Job<E>,
     listener: &L,
     pairs: &[(u32, u32)],
-) -> Result<Vec<PairState>, AllocError>
+) -> Result<Vec<PairState<A>>, AllocError>
     requires engine { E.can_run job.now.engine }
     requires ready { IsReady P job.now.graph.now }
     requires pairs { All (IsPairOf job.now.graph.now.n) pairs.now }
-    ensures held { IfOk result (λ slots. AreHeld P job.now.graph.now pairs.now slots.items) }
+    ensures held { IfOk result
+        (λ slots. AreHeld A.is_answer job.now.graph.now pairs.now slots.items) }
     ensures closed { IfOk result (λ slots. All IsClosed slots.items) }
 {
     let mut slots = open_slots(alloc, job.graph.n(), pairs)?;
@@ -226,13 +224,15 @@ pub(crate) fn find_answers<const P: u32, E: Engine<P>, L: Listener>(
         });
         let targets = targets_from(alloc, job.graph, pairs, &slots, place)?;
         let source = pairs[place].0;
-        let answers = answers_near(&job.engine, &pool, alloc, job.graph, source, &targets)?;
-        let known = Known {
+        let answers = answers_near::<P, A, E, _>(
+            &job.engine,
+            &pool,
+            alloc,
+            job.graph,
             source,
-            targets: &targets,
-            answers: &answers,
-        };
-        keep_answers::<P>(job.graph, known, pairs, &mut slots, place);
+            &targets,
+        )?;
+        keep_answers::<P, A>(job.graph, &targets, answers, pairs, &mut slots, place);
     }
     Ok(slots)
 }

@@ -3,13 +3,14 @@
 ghost use Rattle.std.specs.Prelude.{◌≡◌, ◌≤◌, ◌↔◌, All, IfOk, IfSome, IsTrue};
 ghost use Rattle.sp_word.specs.Word.{max_dist};
 ghost use Rattle.sp_paths.specs.Paths.{IsVertex, IsArc, IsLeast};
-ghost use Rattle.sp_pairs.specs.Near.{IsFirstArc, IsNext, ComesNoLater, IsTurnedAnswer};
+ghost use Rattle.sp_pairs.specs.Near.{IsFirstArc, IsNext, ComesNoLater, IsTurnedEnd, IsTurnedAnswer};
 
+use crate::told::{PairLine, RouteEnd};
 use sp_answer::PairAnswer;
 use sp_graph::Graph;
 use sp_paths::Arc;
 use sp_serial::SearchBuffers;
-use std::alloc::AllocError;
+use std::alloc::{AllocError, Global};
 
 // The approximate number of vertices that a search for a pair may relax. That many take less than a millisecond.
 const MOST: usize = 1 << 13;
@@ -26,7 +27,7 @@ fn distance<const P: u32>(
     ensures least { IfOk result (λ found. IfSome found (IsLeast room.old from to)) }
     ensures most { IfOk result (λ found. IfSome found (λ dist. dist ≤ max_dist P)) }
 {
-    let Some(answers) = room.find(from, &[to], MOST)? else {
+    let Some(answers) = room.find::<PairAnswer>(from, &[to], MOST)? else {
         return Ok(None);
     };
     match answers.first() {
@@ -55,24 +56,24 @@ fn is_first_arc<const P: u32>(
     Ok(Some(rest <= dist && dist - rest == arc.len as u64))
 }
 
-// Returns whether there is a vertex and its number is at most this one.
-fn comes_no_later(vertex: Option<u32>, other: u32) -> bool
-    ensures { IsTrue result ↔ ComesNoLater vertex other }
+// Returns whether there is an arc and the number of its head is at most this one.
+fn comes_no_later(next: Option<Arc>, vertex: u32) -> bool
+    ensures { IsTrue result ↔ ComesNoLater next vertex }
 {
-    match vertex {
-        Some(vertex) => vertex <= other,
+    match next {
+        Some(arc) => arc.head <= vertex,
         None => false,
     }
 }
 
-// Of the heads of a row, returns the smallest one to which a shortest walk to a vertex, of this length, can go first.
-// There is none if the vertex isn't found near one of them.
+// Of the arcs of a row, returns one that a shortest walk to a vertex, of this length, can take first, and of these one
+// with the smallest head. There is none if the vertex isn't found near one of the heads.
 fn next_of<const P: u32>(
     room: &mut SearchBuffers<P>,
     row: &[Arc],
     to: u32,
     dist: u64,
-) -> Result<Option<u32>, AllocError>
+) -> Result<Option<Arc>, AllocError>
     requires row { All (IsArc room.old.n) row.now }
     requires to { IsVertex room.old.n to }
     ensures graph { room.new ≡ room.old }
@@ -87,35 +88,68 @@ fn next_of<const P: u32>(
             return Ok(None);
         };
         if is_first {
-            next = Some(arc.head);
+            next = Some(*arc);
         }
     }
     Ok(next)
 }
 
-/// Returns the answer for a target of a source in the turned form of this graph, if the source is found near the target
-/// here. The buffers belong to this graph.
-pub(crate) fn near_answer<const P: u32>(
+// Returns the end of the route from a source to a target in the turned form of this graph, if each vertex of it is
+// found near the source here: up to the source, or this number of arcs.
+fn turned_end<const P: u32>(
+    alloc: Global,
     room: &mut SearchBuffers<P>,
     graph: &Graph,
     source: u32,
     target: u32,
-) -> Result<Option<PairAnswer>, AllocError>
+    most: usize,
+) -> Result<Option<RouteEnd>, AllocError>
+    requires room { room.old ≡ graph.now }
+    requires source { IsVertex graph.now.n source }
+    requires target { IsVertex graph.now.n target }
+    ensures graph { room.new ≡ room.old }
+    ensures end { IfOk result
+        (λ found. IfSome found (IsTurnedEnd graph.now source target (max_dist P))) }
+{
+    let Some(dist) = distance(room, target, source)? else {
+        return Ok(None);
+    };
+    let mut later = Vec::new(alloc);
+    let (mut first, mut rest) = (target, dist);
+    while first != source && later.len() < most {
+        let Some(arc) = next_of(room, graph.row(first), source, rest)? else {
+            return Ok(None);
+        };
+        later.push(first)?;
+        (first, rest) = (arc.head, rest - arc.len as u64);
+    }
+    Ok(Some(RouteEnd {
+        source,
+        target,
+        dist,
+        first,
+        later,
+    }))
+}
+
+/// Returns the answer for a target of a source in the turned form of this graph, if it is found here near the ends. The
+/// buffers belong to this graph.
+pub(crate) fn near_answer<const P: u32, A: PairLine<P>>(
+    alloc: Global,
+    room: &mut SearchBuffers<P>,
+    graph: &Graph,
+    source: u32,
+    target: u32,
+) -> Result<Option<A>, AllocError>
     requires room { room.old ≡ graph.now }
     requires source { IsVertex graph.now.n source }
     requires target { IsVertex graph.now.n target }
     ensures graph { room.new ≡ room.old }
     ensures answer { IfOk result
-        (λ found. IfSome found (IsTurnedAnswer graph.now source target (max_dist P))) }
+        (λ found. IfSome found (IsTurnedAnswer A.is_answer graph.now source target)) }
 {
-    let Some(dist) = distance(room, target, source)? else {
-        return Ok(None);
-    };
-    if source == target {
-        return Ok(Some(PairAnswer::Found { dist: 0, pred: 0 }));
+    match turned_end(alloc, room, graph, source, target, A::steps_back())? {
+        Some(end) => A::of_end(end),
+        None => Ok(None),
     }
-    let Some(pred) = next_of(room, graph.row(target), source, dist)? else {
-        return Ok(None);
-    };
-    Ok(Some(PairAnswer::Found { dist, pred }))
 }

@@ -1,4 +1,4 @@
-//! A batch of pairs: a source and a target each.
+//! A batch of pairs: a source and a target each. What is told of them is words or routes.
 ghost use Rattle.std.specs.Prelude.{◌≡◌, ℕ, true, List, All, Some, IfSome, IfNone, IfErr};
 ghost use Rattle.sp_word.specs.Word.{is_layout};
 ghost use Rattle.sp_dimacs.specs.Graph.{IsNetworkUpTo, graph_of};
@@ -7,10 +7,13 @@ ghost use Rattle.sp_network.specs.declared.directions.Direction.TheVariants.{AsG
 ghost use Rattle.sp_dimacs.specs.Pairs.{ArePairsWithin};
 ghost use Rattle.sp_jobs.specs.Answers.{is_early};
 ghost use Rattle.sp_jobs.specs.Answered.{wrote_by};
+ghost use Rattle.sp_jobs.specs.PairAnswers.{word_kind};
 ghost use Rattle.sp_pairs.specs.Pairs.{IsPairUpTo, IsFirstPairAbove, ArePairsDone, PairsAnswered, PairsOfSome, MayFail};
 
 use crate::pair_lines::write_pairs;
+use crate::told::PairLine;
 use crate::towards::find_slots;
+use sp_answer::PairAnswer;
 use sp_device::Peeked;
 use sp_dimacs::{PairsFile, Read, Write, read_pairs};
 use sp_jobs::{BatchError, BucketWidth, Listener, Nobody, Role, Settings, Summary};
@@ -37,7 +40,7 @@ fn first_pair_above(pairs: &[(u32, u32)], n: u32) -> Option<(u32, Role)>
 
 // Tests the pairs, finds all their answers, and then writes them.
 #[tactic(auto, using(crate::proofs::SamePairs::pairs_not_early))]
-fn answer_pairs<const P: u32, R: RunsTeams<P>, W: Write, L: Listener>(
+fn answer_pairs<const P: u32, A: PairLine<P>, R: RunsTeams<P>, W: Write, L: Listener>(
     rt: &R,
     alloc: Global,
     file: Network,
@@ -49,15 +52,15 @@ fn answer_pairs<const P: u32, R: RunsTeams<P>, W: Write, L: Listener>(
     requires layout { is_layout P ≡ true }
     requires network { IsNetworkUpTo P (most_of settings.now.direction) file }
     requires pairs { ArePairsWithin P list.now }
-    ensures done { ArePairsDone P (wrote_by W.Write out.old out.new)
+    ensures done { ArePairsDone A.kind P (wrote_by W.Write out.old out.new)
         (directed settings.now.direction (graph_of file)) list.now.pairs.items result }
     ensures untouched { IfErr result (λ e. is_early e ≡ true → out.new ≡ out.old) }
 {
     if let Some((number, role)) = first_pair_above(&list.pairs, file.n()) {
         return Err(BatchError::NoSuchVertex(number, role));
     }
-    let slots = find_slots::<P, R, L>(rt, alloc, file, &list.pairs, settings)?;
-    write_pairs(&list.pairs, &slots, out)
+    let slots = find_slots::<P, A, R, L>(rt, alloc, file, &list.pairs, settings)?;
+    write_pairs::<P, A, W>(&list.pairs, &slots, out)
 }
 
 /// Reads a graph and a list of pairs. For each pair, in the order of the list, writes one line: the target's word of
@@ -84,10 +87,11 @@ pub fn run_pairs<const P: u32, R: RunsTeams<P>, G: Read, S: Read, W: Write>(
     requires layout { is_layout P ≡ true }
     ensures exact { (gr_text list_text : List ℕ)
         → ⟦<Peeked<G> as Read>⟧.left gr.old ≡ Some gr_text → S.left pairs.old ≡ Some list_text
-        → PairsAnswered P AsGiven gr_text list_text ⟦<Peeked<G> as Read>⟧ gr.new S.Read pairs.new
+        → PairsAnswered word_kind P AsGiven gr_text list_text
+        ⟦<Peeked<G> as Read>⟧ gr.new S.Read pairs.new
         (wrote_by W.Write out.old out.new) result }
     ensures untouched { IfErr result (λ e. is_early e ≡ true → out.new ≡ out.old) }
-    ensures found { PairsOfSome P AsGiven (wrote_by W.Write out.old out.new) result }
+    ensures found { PairsOfSome word_kind P AsGiven (wrote_by W.Write out.old out.new) result }
     ensures may_fail { IfErr result
         (MayFail (⟦<Peeked<G> as Read>⟧.failing gr.old) (S.failing pairs.old)) }
 {
@@ -97,12 +101,21 @@ pub fn run_pairs<const P: u32, R: RunsTeams<P>, G: Read, S: Read, W: Write>(
         workers,
         listener: &Nobody,
     };
-    run_pairs_told::<P, R, G, S, W, Nobody>(rt, alloc, gr, pairs, out, &settings)
+    run_pairs_told::<P, PairAnswer, R, G, S, W, Nobody>(rt, alloc, gr, pairs, out, &settings)
 }
 
-/// Does what `run_pairs` does, and reports the progress to a listener: when the graph has been built, and before each
-/// run from a source.
-pub fn run_pairs_told<const P: u32, R: RunsTeams<P>, G: Read, S: Read, W: Write, L: Listener>(
+/// Does what `run_pairs` does for words (`A` is `PairAnswer`) or routes (`A` is `RouteAnswer`): then each line has, in
+/// place of the target's word, its distance and the vertices of the route. It reports the progress to a listener: when
+/// the graph has been built, and before each run from a source.
+pub fn run_pairs_told<
+    const P: u32,
+    A: PairLine<P>,
+    R: RunsTeams<P>,
+    G: Read,
+    S: Read,
+    W: Write,
+    L: Listener,
+>(
     rt: &R,
     alloc: Global,
     gr: &mut Peeked<G>,
@@ -114,11 +127,12 @@ pub fn run_pairs_told<const P: u32, R: RunsTeams<P>, G: Read, S: Read, W: Write,
     requires layout { is_layout P ≡ true }
     ensures exact { (gr_text list_text : List ℕ)
         → ⟦<Peeked<G> as Read>⟧.left gr.old ≡ Some gr_text → S.left pairs.old ≡ Some list_text
-        → PairsAnswered P settings.now.direction gr_text list_text
+        → PairsAnswered A.kind P settings.now.direction gr_text list_text
         ⟦<Peeked<G> as Read>⟧ gr.new S.Read pairs.new
         (wrote_by W.Write out.old out.new) result }
     ensures untouched { IfErr result (λ e. is_early e ≡ true → out.new ≡ out.old) }
-    ensures found { PairsOfSome P settings.now.direction (wrote_by W.Write out.old out.new) result }
+    ensures found { PairsOfSome A.kind P settings.now.direction
+        (wrote_by W.Write out.old out.new) result }
     ensures may_fail { IfErr result
         (MayFail (⟦<Peeked<G> as Read>⟧.failing gr.old) (S.failing pairs.old)) }
 {
@@ -127,5 +141,5 @@ pub fn run_pairs_told<const P: u32, R: RunsTeams<P>, G: Read, S: Read, W: Write,
         Ok(list) => list,
         Err(error) => return Err(BatchError::Pairs(error)),
     };
-    answer_pairs::<P, R, W, L>(rt, alloc, file, &list, settings, out)
+    answer_pairs::<P, A, R, W, L>(rt, alloc, file, &list, settings, out)
 }

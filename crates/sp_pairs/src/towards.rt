@@ -9,8 +9,9 @@ ghost use Rattle.sp_network.specs.Network.{directed, most_of};
 ghost use Rattle.sp_pairs.specs.Slots.{IsClosed, IsPairOf, AreHeld};
 ghost use Rattle.sp_pairs.specs.Near.{IsClosedFor};
 
-use crate::asking::{PairState, find_answers, slot_of};
+use crate::asking::{PairState, find_answers};
 use crate::near::near_answer;
+use crate::told::PairLine;
 use sp_dimacs::GrFile;
 use sp_graph::Graph;
 use sp_jobs::{Listener, Progress, Settings};
@@ -25,37 +26,37 @@ use std::alloc::{AllocError, Global};
 const FEW: usize = 8;
 
 // Finds what is known of pairs in the turned form of this graph, if the ends of each pair are near each other.
-fn near_slots<const P: u32>(
+fn near_slots<const P: u32, A: PairLine<P>>(
     alloc: Global,
     graph: &Graph,
     pairs: &[(u32, u32)],
-) -> Result<Option<Vec<PairState>>, AllocError>
+) -> Result<Option<Vec<PairState<A>>>, AllocError>
     requires layout { is_layout P ≡ true }
     requires n { graph.now.n ≤ max_pred P }
     requires pairs { All (IsPairOf graph.now.n) pairs.now }
     ensures { IfOk result (λ found. IfSome found
-        (λ slots. AllZip (IsClosedFor P graph.now) pairs.now slots.items)) }
+        (λ slots. AllZip (IsClosedFor A.is_answer graph.now) pairs.now slots.items)) }
 {
     let mut room = SearchBuffers::<P>::new(alloc, graph)?;
     let mut slots = Vec::new(alloc);
     for (source, target) in pairs {
-        let Some(answer) = near_answer(&mut room, graph, *source, *target)? else {
+        let Some(answer) = near_answer::<P, A>(alloc, &mut room, graph, *source, *target)? else {
             return Ok(None);
         };
-        slots.push(slot_of(answer))?;
+        slots.push(PairState::Known(answer))?;
     }
     Ok(Some(slots))
 }
 
 // Finds what is known of pairs in a network whose arcs have to be turned round, in the network as it is, if the pairs
 // are few and their ends are near each other. The network is returned with the arcs that it had, in any order.
-fn near_in<const P: u32, R: ThreadsAndSleep, L: Listener>(
+fn near_in<const P: u32, A: PairLine<P>, R: ThreadsAndSleep, L: Listener>(
     rt: &R,
     alloc: Global,
     file: Network,
     pairs: &[(u32, u32)],
     settings: &Settings<P, L>,
-) -> Result<(Network, Option<Vec<PairState>>), AllocError>
+) -> Result<(Network, Option<Vec<PairState<A>>>), AllocError>
     requires layout { is_layout P ≡ true }
     requires network { IsNetworkUpTo P (most_of settings.now.direction) file }
     requires pairs { All (IsPairOf file.n) pairs.now }
@@ -65,7 +66,8 @@ fn near_in<const P: u32, R: ThreadsAndSleep, L: Listener>(
         (λ kept. AreSame (directed settings.now.direction (graph_of kept.0))
         (directed settings.now.direction (graph_of file))) }
     ensures held { IfOk result (λ kept. IfSome kept.1 (λ slots.
-        AreHeld P (directed settings.now.direction (graph_of file)) pairs.now slots.items)) }
+        AreHeld A.is_answer (directed settings.now.direction (graph_of file))
+        pairs.now slots.items)) }
     ensures closed { IfOk result (λ kept. IfSome kept.1 (λ slots. All IsClosed slots.items)) }
 {
     let Direction::Towards = settings.direction else {
@@ -76,7 +78,7 @@ fn near_in<const P: u32, R: ThreadsAndSleep, L: Listener>(
     }
     let n = file.n();
     let graph = file.build(rt, alloc, settings.workers)?;
-    let slots = near_slots::<P>(alloc, &graph, pairs).unwrap_or(None);
+    let slots = near_slots::<P, A>(alloc, &graph, pairs).unwrap_or(None);
     if slots.is_some() {
         settings.listener.hear(Progress::Graph {
             vertices: n,
@@ -88,27 +90,28 @@ fn near_in<const P: u32, R: ThreadsAndSleep, L: Listener>(
 }
 
 /// Finds the answers for pairs of a network with its arcs in the requested direction, in the order of the pairs.
-pub(crate) fn find_slots<const P: u32, R: RunsTeams<P>, L: Listener>(
+pub(crate) fn find_slots<const P: u32, A: PairLine<P>, R: RunsTeams<P>, L: Listener>(
     rt: &R,
     alloc: Global,
     file: Network,
     pairs: &[(u32, u32)],
     settings: &Settings<P, L>,
-) -> Result<Vec<PairState>, AllocError>
+) -> Result<Vec<PairState<A>>, AllocError>
     requires handle { R.is_shared }
     requires layout { is_layout P ≡ true }
     requires network { IsNetworkUpTo P (most_of settings.now.direction) file }
     requires pairs { All (IsPairOf file.n) pairs.now }
     ensures held { IfOk result (λ slots.
-        AreHeld P (directed settings.now.direction (graph_of file)) pairs.now slots.items) }
+        AreHeld A.is_answer (directed settings.now.direction (graph_of file))
+        pairs.now slots.items) }
     ensures closed { IfOk result (λ slots. All IsClosed slots.items) }
 {
-    let (file, near) = near_in(rt, alloc, file, pairs, settings)?;
+    let (file, near) = near_in::<P, A, R, L>(rt, alloc, file, pairs, settings)?;
     if let Some(slots) = near {
         return Ok(slots);
     }
     let graph = settings.build(rt, alloc, file)?;
     let uncounted = Meter::new();
     let job = settings.job(rt, &graph, &uncounted);
-    find_answers::<P, _, L>(alloc, &job, settings.listener, pairs)
+    find_answers::<P, A, _, L>(alloc, &job, settings.listener, pairs)
 }

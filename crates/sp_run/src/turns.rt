@@ -10,8 +10,7 @@ ghost use Rattle.sp_run.specs.RunFromAny.{TakesWalks, KnowsOwn, IsOfWalks};
 use crate::run::RunFromAny;
 use crate::walks_from_any::WalksFromAny;
 use sp_answer::{RunRequest, RunWords, Until};
-use sp_graph::Mark;
-use sp_judge::{Scan, judge_by, open_tails, settle};
+use sp_judge::{MarkedWords, Scan, judge_by, open_tails, settle};
 use sp_offer::{Caller, OfferTable};
 use sp_team::Search;
 use sp_word::{ThreadsAndSleep, Word};
@@ -22,31 +21,20 @@ const TURNS: u32 = 8;
 
 impl<'g, const P: u32> RunFromAny<'g, P> {
     // Judges a copy of the words by the arcs that matter to the query. It skips vertices that a mark shows to be relaxed.
-    fn judge<C: ThreadsAndSleep>(
-        &self,
-        rt: &C,
-        words: &[Word<P>],
-        marks: &[Vec<Mark>],
-        until: Until,
-    ) -> Scan
-        requires copy { IsOfWalks P self.now words.now }
-        requires marks { AreTrueMarks (max_dist P) self.now.graph (word_at words.now) marks.now }
+    fn judge<C: ThreadsAndSleep>(&self, rt: &C, copy: MarkedWords<P>, until: Until) -> Scan
+        requires copy { IsOfWalks P self.now copy.words.now }
+        requires marks { AreTrueMarks (max_dist P)
+            self.now.graph (word_at copy.words.now) copy.marks.now }
         requires asked { IsAsked P self.now.graph.n until }
-        ensures { ShowsAsked P self.now.graph self.now.sources until.entry words.now result }
+        ensures { ShowsAsked P self.now.graph
+            self.now.sources until.entry copy.entry.words.now result }
     {
         let run = RunRequest {
             sources: self.sources,
             until,
         };
-        judge_by(
-            rt,
-            self.alloc,
-            self.graph,
-            run,
-            words,
-            marks,
-            self.team.workers.get(),
-        )
+        let threads = self.team.workers.get();
+        judge_by(rt, self.alloc, self.graph, run, copy, threads)
     }
 
     // Answers the query from a copy of the words in which the team's turns have left arcs open.
@@ -89,7 +77,11 @@ impl<'g, const P: u32> RunFromAny<'g, P> {
                 meter: self.meter,
             };
             let (words, done) = self.lower(rt, table, &search, caller)?;
-            match self.judge(rt, words.as_slice(), done.marks.as_slice(), until) {
+            let copy = MarkedWords {
+                words: words.as_slice(),
+                marks: done.marks.as_slice(),
+            };
+            match self.judge(rt, copy, until) {
                 Scan::Whole => return Ok(RunWords { words, far: None }),
                 Scan::LeavesOut(vertex) => {
                     return Ok(RunWords {

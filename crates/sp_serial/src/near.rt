@@ -5,11 +5,11 @@ ghost use Rattle.sp_word.specs.Word.{is_layout, max_dist, max_pred};
 ghost use Rattle.sp_paths.specs.Paths.{IsVertex};
 ghost use Rattle.sp_answer.specs.Within.{IsTreeWithin};
 ghost use Rattle.sp_answer.specs.Nearest.{IsForestAnswer, IsRefusal};
-ghost use Rattle.sp_answer.specs.Run.{AreAnswersFor};
+ghost use Rattle.sp_answer.specs.Run.{AreAnswersBy};
 
 use crate::search_pool::SearchPoolOn;
 use crate::shelf::Shelf;
-use sp_answer::{Engine, Forest, PairAnswer, RunError, Tree, answers_of, forest_of, part_of};
+use sp_answer::{Engine, Forest, RunError, TargetAnswer, Tree, answers_of, forest_of, part_of};
 use sp_graph::Graph;
 use std::alloc::{AllocError, Global};
 
@@ -39,27 +39,27 @@ pub fn part_near<const P: u32, E: Engine<P>, S: Shelf<P>>(
 }
 
 /// Finds the answers for targets of a source, in their order: near the source, by a search; or else by a run.
-pub fn answers_near<const P: u32, E: Engine<P>, S: Shelf<P>>(
+pub fn answers_near<const P: u32, A: TargetAnswer<P>, E: Engine<P>, S: Shelf<P>>(
     engine: &E,
     pool: &SearchPoolOn<S, P>,
     alloc: Global,
     graph: &Graph,
     source: u32,
     targets: &[u32],
-) -> Result<Vec<PairAnswer>, AllocError>
+) -> Result<Vec<A>, AllocError>
     requires engine { E.can_run engine.now }
     requires layout { is_layout P ≡ true }
     requires n { graph.now.n ≤ max_pred P }
     requires source { IsVertex graph.now.n source }
     requires targets { All (IsVertex graph.now.n) targets.now }
     ensures answers { IfOk result
-        (λ answers. AreAnswersFor graph.now source (max_dist P) targets.now answers.items) }
+        (λ answers. AreAnswersBy (A.is_answer graph.now source) targets.now answers.items) }
     ensures size { IfOk result (λ answers. length answers.items ≡ length targets.now) }
 {
     if let Some(answers) = pool.find(alloc, graph, source, targets) {
         return Ok(answers);
     }
-    match answers_of::<P, E>(engine, alloc, graph, source, targets) {
+    match answers_of::<P, A, E>(engine, alloc, graph, source, targets) {
         Ok(answers) => Ok(answers),
         Err(_) => Err(AllocError),
     }

@@ -4,26 +4,15 @@ ghost use Rattle.std.specs.Bool.{OnTrue};
 ghost use Rattle.sp_word.specs.Word.{is_layout, max_dist, max_pred};
 ghost use Rattle.sp_paths.specs.Paths.{IsVertex};
 ghost use Rattle.sp_answer.specs.Table.{HasPredWithin};
-ghost use Rattle.sp_answer.specs.Within.{up_to};
 ghost use Rattle.sp_serial.specs.TrackedWords.{AreTouched, IsClear};
 ghost use Rattle.sp_serial.specs.Part.{HasGained, HasNoOther, IsPartOf, HasPart};
 
 use crate::reach::reach;
 use crate::tracked_words::{TrackedWords, sort};
-use sp_answer::{RunRequest, Tree, Until};
+use sp_answer::{RunRequest, Tree, Until, up_to};
 use sp_graph::{Graph, look_up};
 use sp_word::Word;
 use std::alloc::{AllocError, Global};
-
-// Returns the word if its distance is at most the limit, and an unreached one otherwise.
-fn up_to<const P: u32>(word: Word<P>, limit: u64) -> Word<P>
-    ensures { result ≡ up_to limit word.entry }
-{
-    match word.dist() {
-        Some(dist) if dist <= limit => word,
-        _ => Word::unreached(),
-    }
-}
 
 // Appends the row of a vertex with this word, unless it is unreached or has its row already. If the last row is that of a greater
 // vertex, it appends nothing and returns false; otherwise it returns true.

@@ -4,14 +4,14 @@ ghost use Rattle.sp_word.specs.Word.{is_layout, max_dist, max_pred};
 ghost use Rattle.sp_paths.specs.Paths.{IsVertex};
 ghost use Rattle.sp_answer.specs.Within.{IsTreeWithin};
 ghost use Rattle.sp_answer.specs.Nearest.{IsForestAnswer};
-ghost use Rattle.sp_answer.specs.Run.{AreAnswersFor};
+ghost use Rattle.sp_answer.specs.Run.{AreAnswersBy};
 ghost use Rattle.sp_serial.specs.TrackedWords.{AreTouched, IsClear};
 
 use crate::part::rows_in;
 use crate::reach::reach;
 use crate::rooted::rooted;
 use crate::tracked_words::{TrackedWords, clear};
-use sp_answer::{Forest, PairAnswer, RunRequest, RunWords, Tree, Until};
+use sp_answer::{Forest, RunRequest, RunWords, TargetAnswer, Tree, Until};
 use sp_graph::Graph;
 use sp_word::Word;
 use std::alloc::{AllocError, Global};
@@ -42,21 +42,21 @@ impl<'g, const P: u32> Model for SearchBuffers<'g, P> {
 }
 
 // Searches for targets from a source, when all vertices are unreached. It gives up rather than process more than `most` entries.
-fn find_in<const P: u32>(
+fn find_in<const P: u32, A: TargetAnswer<P>>(
     alloc: Global,
     graph: &Graph,
     source: u32,
     targets: &[u32],
     most: usize,
     tracked: &mut TrackedWords<P>,
-) -> Result<Option<Vec<PairAnswer>>, AllocError>
+) -> Result<Option<Vec<A>>, AllocError>
     requires source { IsVertex graph.now.n source }
     requires targets { All (IsVertex graph.now.n) targets.now }
     requires clear { IsClear P graph.now tracked.old.words.items }
     ensures size { vec_len tracked.new.words ≡ graph.now.n }
     ensures tracked { AreTouched 0 tracked.new.reached.items tracked.new.words.items }
     ensures answers { IfOk result (λ found. IfSome found
-        (λ answers. AreAnswersFor graph.now source (max_dist P) targets.now answers.items)) }
+        (λ answers. AreAnswersBy (A.is_answer graph.now source) targets.now answers.items)) }
 {
     let run = RunRequest {
         sources: &[source],
@@ -98,17 +98,17 @@ impl<'g, const P: u32> SearchBuffers<'g, P> {
     ///
     /// It takes no time for vertices that it doesn't touch, and memory for those that it does. In every case the buffers are
     /// ready for the next search.
-    pub fn find(
+    pub fn find<A: TargetAnswer<P>>(
         &mut self,
         source: u32,
         targets: &[u32],
         most: usize,
-    ) -> Result<Option<Vec<PairAnswer>>, AllocError>
+    ) -> Result<Option<Vec<A>>, AllocError>
         requires source { IsVertex self.old.n source }
         requires targets { All (IsVertex self.old.n) targets.now }
         ensures graph { self.new ≡ self.old }
         ensures answers { IfOk result (λ found. IfSome found
-            (λ answers. AreAnswersFor self.old source (max_dist P) targets.now answers.items)) }
+            (λ answers. AreAnswersBy (A.is_answer self.old source) targets.now answers.items)) }
     {
         let graph = self.graph;
         let _ = graph.n();

@@ -4,13 +4,13 @@ ghost use Rattle.sp_word.specs.Word.{is_layout, max_dist, max_pred};
 ghost use Rattle.sp_paths.specs.Paths.{IsVertex};
 ghost use Rattle.sp_answer.specs.Within.{IsTreeWithin};
 ghost use Rattle.sp_answer.specs.Nearest.{IsForestAnswer};
-ghost use Rattle.sp_answer.specs.Run.{AreAnswersFor};
+ghost use Rattle.sp_answer.specs.Run.{AreAnswersBy};
 
 use crate::misses::Misses;
 use crate::search_buffers::SearchBuffers;
 use crate::shelf::{OwnShelf, SharedShelf, Shelf};
 use crate::spare_buffers::SpareBuffers;
-use sp_answer::{Forest, PairAnswer, Tree};
+use sp_answer::{Forest, TargetAnswer, Tree};
 use sp_graph::Graph;
 use std::alloc::Global;
 
@@ -92,19 +92,19 @@ impl<S: Shelf<P>, const P: u32> SearchPoolOn<S, P> {
     /// Returns the answers for targets near their source, as `SearchBuffers::find` does. If the targets aren't near, or if an
     /// allocation fails, nothing is kept of the search, so that another run has as much memory as before. After several
     /// searches that gave up, some sources skip the search.
-    pub fn find(
+    pub fn find<A: TargetAnswer<P>>(
         &self,
         alloc: Global,
         graph: &Graph,
         source: u32,
         targets: &[u32],
-    ) -> Option<Vec<PairAnswer>>
+    ) -> Option<Vec<A>>
         requires layout { is_layout P ≡ true }
         requires n { graph.now.n ≤ max_pred P }
         requires source { IsVertex graph.now.n source }
         requires targets { All (IsVertex graph.now.n) targets.now }
         ensures answers { IfSome result
-            (λ answers. AreAnswersFor graph.now source (max_dist P) targets.now answers.items) }
+            (λ answers. AreAnswersBy (A.is_answer graph.now source) targets.now answers.items) }
     {
         let mut room = self.open(alloc, graph)?;
         let found = room.find(source, targets, most_of(graph)).unwrap_or(None);

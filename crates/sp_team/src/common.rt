@@ -1,13 +1,11 @@
 //! The state shared by all workers of a team.
 use crate::chunk::Chunk;
 use crate::deques::{TeamDeques, make_deques};
+use crate::schedule::FINER;
 use crate::search::Search;
 use crate::signals::Signals;
 use crossbeam_deque::{Stealer, Worker};
 use std::alloc::{AllocError, Global};
-
-/// A worker starts with buckets whose width is delta divided by 2 to this power.
-const FINER: u32 = 3;
 
 /// The state shared by all workers of a team.
 ///

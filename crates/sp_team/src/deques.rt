@@ -1,10 +1,8 @@
 //! The deques of a team, and stealing from any deques.
 use crate::chunk::Chunk;
+use crate::schedule::TRIES;
 use crossbeam_deque::{Steal, Stealer, Worker};
 use std::alloc::{AllocError, Global};
-
-/// How many times a thief tries a deque that neither returns an item nor is empty.
-const TRIES: u32 = 100;
 
 /// The deques of a team: each worker's own end, and the end from which the others steal.
 #[derive(Drop)]

@@ -12,6 +12,7 @@ mod deques;
 mod entries;
 mod notes;
 mod relax;
+mod schedule;
 mod search;
 mod signals;
 mod tally;

@@ -5,12 +5,10 @@ ghost use Rattle.sp_team.specs.Law.{IsReady};
 ghost use Rattle.sp_team.specs.Later.{IsLater};
 
 use crate::entries::read_dist;
+use crate::schedule::GLANCE;
 use sp_graph::Graph;
 use sp_offer::{Caller, Lawful, OfferTable};
 use sp_word::{Meter, Team};
-
-/// The number of targets that a worker checks at once.
-const GLANCE: usize = 16;
 
 /// The goal of a search, and the team that performs it.
 #[derive(Drop)]

@@ -15,6 +15,7 @@ use crate::common::Common;
 use crate::entries::{end_bits, is_live, leads_on, read_dist, warm_vertices};
 use crate::notes::Notes;
 use crate::relax::{answer, ask};
+use crate::schedule::{STRETCH, STRETCHES};
 use crate::search::{Horizon, Search};
 use crate::work_queue::WorkQueue;
 use crossbeam_deque::Worker;
@@ -24,12 +25,6 @@ use sp_offer::{Caller, Lawful, OfferTable};
 use sp_word::{Meter, ThreadsAndSleep};
 use std::alloc::{AllocError, Global};
 use std::thread::join;
-
-/// The number of entries that a worker processes before it checks whether others need some.
-const STRETCH: usize = 64;
-
-/// Upper bound on the stretches of entries that a worker processes; never reached in practice. Entries left after it are dropped.
-const STRETCHES: u64 = 1 << 60;
 
 /// The result of a team's work.
 #[derive(Drop)]

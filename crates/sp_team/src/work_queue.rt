@@ -3,6 +3,7 @@
 use crate::chunk::Chunk;
 use crate::common::Common;
 use crate::deques::steal;
+use crate::schedule::{AHEAD, LEAST_PIECE, LOOKS, MOST_LOOKS, NAP, PATIENCE, YIELDS};
 use crate::tally::Tally;
 use crossbeam_deque::Worker;
 use sp_bins::{Bins, Entry};
@@ -10,26 +11,6 @@ use sp_word::{Meter, ThreadsAndSleep};
 use std::alloc::{AllocError, Global};
 use std::hint::spin_loop;
 use std::thread::yield_now;
-
-/// The fewest entries that are worth a chunk.
-const LEAST_PIECE: usize = 16;
-
-/// How many buckets ahead of the others a worker may be without waiting for them.
-const AHEAD: u64 = 2;
-
-/// How many times a worker that is ahead checks on the others before it continues anyway.
-const PATIENCE: u32 = 1000;
-
-/// How many times a worker without entries looks for some before it yields, and how many times before it sleeps.
-const LOOKS: u64 = 1000;
-
-const YIELDS: u64 = 1010;
-
-/// The longest time that a worker sleeps, in microseconds.
-const NAP: u64 = 500;
-
-/// Upper bound on how often a worker looks for another worker's chunk, and for its next entry; never reached in practice.
-const MOST_LOOKS: u64 = 1 << 60;
 
 /// A worker's entries: its list, its buckets and its deque.
 #[derive(Drop)]

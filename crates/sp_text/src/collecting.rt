@@ -44,8 +44,9 @@ pub trait Keep {
     /// Keeps an item whose numbers are in range. If there is no memory, the contract promises nothing about the kept items.
     fn keep(&mut self, place: usize, values: &Values) -> Result<(), AllocError>
         requires { CanKeep format ranges place values.now }
-        ensures { (before : List ItemLine) (item : ItemLine) → Kept self.old before → item.kind ≡ place
-            → item.numbers ≡ values.now → OnOk result (Kept self.new (before ++ item ∷ [])) };
+        ensures { (before : List ItemLine) (item : ItemLine) → Kept self.old before
+            → item.kind ≡ place → item.numbers ≡ values.now
+            → OnOk result (Kept self.new (before ++ item ∷ [])) };
 
     /// Returns whether an item of this fresh form with this first number was kept.
     fn is_named(&self, place: usize, first: u64) -> bool

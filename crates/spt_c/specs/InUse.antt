@@ -3,6 +3,7 @@ use Rattle.spt_c.specs.declared.answers.SptAnswer.{SptAnswer}
 use Rattle.spt_c.specs.declared.answers.SptBatch.{SptBatch}
 use Rattle.spt_c.specs.declared.answers.SptPart.{SptPart}
 use Rattle.spt_c.specs.declared.found.SptFound.{SptFound}
+use Rattle.spt_c.specs.declared.routes.SptRoute.{SptRoute}
 use Rattle.spt_c.specs.declared.counts.SptCounts.{SptCounts}
 use Rattle.spt_c.specs.declared.packing.SptPacked.{SptPacked}
 use Rattle.spt_c.specs.declared.packing.SptSaved.{SptSaved}
@@ -22,6 +23,10 @@ part_in_use = record { status = 12; count = 0 }
 -- The same for a call for a target.
 abbrev pub found_in_use : SptFound
 found_in_use = record { status = 12; pred = 0; dist = 0; index = 0 }
+
+-- The same for a call for a route.
+abbrev pub route_in_use : SptRoute
+route_in_use = record { status = 12; vertex = 0; dist = 0; index = 0; count = 0 }
 
 -- The same for a call for the size of a graph.
 abbrev pub counts_in_use : SptCounts

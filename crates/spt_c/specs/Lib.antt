@@ -4,6 +4,7 @@ pub mod Question
 pub mod Outcome
 pub mod Checked
 pub mod Found
+pub mod Routes
 pub mod Texts
 pub mod Owned
 pub mod Owners

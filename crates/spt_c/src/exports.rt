@@ -2,7 +2,7 @@
 ghost use Rattle.std.specs.Prelude.{◌≡◌, ◌≢◌, ◌∷◌, [], Result};
 ghost use Rattle.std.specs.declared.option.Option.TheVariants.{None};
 ghost use Rattle.spt_c.specs.Place.{kept, IsInUse, IsFree, IsSame};
-ghost use Rattle.spt_c.specs.InUse.{answer_in_use, batch_in_use, part_in_use, found_in_use, counts_in_use, packed_in_use, saved_in_use};
+ghost use Rattle.spt_c.specs.InUse.{answer_in_use, batch_in_use, part_in_use, found_in_use, route_in_use, counts_in_use, packed_in_use, saved_in_use};
 ghost use Rattle.sp_lists.specs.Limits.{IsCount, reach};
 ghost use Rattle.sp_lists.specs.Blocks.{slices, KeepsFrom};
 ghost use Rattle.sp_lists.specs.ForestQuestion.{lists};
@@ -11,11 +11,14 @@ ghost use Rattle.sp_lists.specs.declared.outcomes.BatchOutcome.{BatchOutcome};
 ghost use Rattle.sp_lists.specs.declared.outcomes.ListingOutcome.{ListingOutcome};
 ghost use Rattle.sp_lists.specs.declared.outcomes.Outcome.{Outcome};
 ghost use Rattle.sp_lists.specs.declared.cells.Cell.{Cell};
+ghost use Rattle.sp_lists.specs.declared.routes.RouteSize.{RouteSize};
+ghost use Rattle.sp_lists.specs.Routes.{route_slices};
 ghost use Rattle.spt_c.specs.Asked.{asked};
 ghost use Rattle.spt_c.specs.Outcome.{IsTold, answer_of, batch_of};
 ghost use Rattle.spt_c.specs.Checked.{IsChecked};
 ghost use Rattle.spt_c.specs.KeptLists.{limit_of, part_of, IsPartOfKept, IsListOfKept, IsForestOfKept, IsMatrixOfKept};
 ghost use Rattle.spt_c.specs.Found.{IsFound, IsFoundOfKept, found_of};
+ghost use Rattle.spt_c.specs.Routes.{route_of, IsRouteOfKept, AreRoutesOfKept};
 ghost use Rattle.spt_c.specs.Texts.{IsRead, text_of};
 ghost use Rattle.spt_c.specs.Kept.{made_of, IsMade, IsShared, counts_of, IsToldOfKept};
 ghost use Rattle.sp_network.specs.Turned.{IsTurned, IsBothWays};
@@ -36,20 +39,21 @@ use crate::kept::of_kept;
 use crate::making::{clear, make, share};
 use crate::packing::{SaveAnswer, SptPacked, SptSaved, load, save};
 use crate::place::{KeptGraph, Taken};
+use crate::routes::SptRoute;
 use crate::texts::{SptText, read_graph};
 use crate::turning::{keep_both_ways, keep_turned};
 use sp_lists::{
-    BatchOutcome, ForestQuestion, ListingOutcome, Outcome, PartQuestion, is_count, list_part,
-    reach, write_forest, write_matrix, write_part,
+    BatchOutcome, ForestQuestion, ListingOutcome, Outcome, PartQuestion, RoutesQuestion, is_count,
+    list_part, reach, write_forest, write_matrix, write_part, write_route, write_routes,
 };
 use std::alloc::Global;
 
 /// Returns the library's version as a number: 10,000 times its first part plus 100 times its second part.
 #[unsafe(no_mangle)]
 pub extern "C" fn spt_version() -> u32
-    ensures { result ≡ 10500 }
+    ensures { result ≡ 10600 }
 {
-    10_500
+    10_600
 }
 
 /// Returns the greatest distance in a graph of n vertices, or 0 if no graph can have n vertices.
@@ -248,6 +252,51 @@ pub extern "C" fn spt_graph_pair(
     ensures same { IsSame graph.old graph.new }
 {
     of_kept!(alloc, graph, held => SptFound::of(find_known(alloc, held.prepared(), source, target, delta)), SptFound::of(Err(Outcome::NoGraph)), SptFound::in_use())
+}
+
+/// Writes the vertices of the route from a source to a target in the kept graph to the front of the slice: those of the
+/// shortest path that takes, read from the target backwards, the smallest vertex each time. If the slice has too few
+/// places, writes nothing; either way the result has their number.
+#[unsafe(no_mangle)]
+pub extern "C" fn spt_graph_route(
+    alloc: Global,
+    graph: &mut KeptGraph,
+    source: u32,
+    target: u32,
+    vertices: &mut [u32],
+) -> SptRoute
+    ensures told { IsFree graph.old → (size : Result RouteSize Outcome) × (result ≡ route_of size)
+        × IsRouteOfKept (kept graph.old) source target vertices.old vertices.new size }
+    ensures in_use { IsInUse graph.old
+        → (result ≡ route_in_use) × (vertices.new ≡ vertices.old) }
+    ensures same { IsSame graph.old graph.new }
+{
+    of_kept!(alloc, graph, held => SptRoute::of(write_route(alloc, held.prepared(), source, target, vertices)), SptRoute::of(Err(Outcome::NoGraph)), SptRoute::in_use())
+}
+
+/// Writes the routes from a source to several targets in the kept graph, by one search: each target's distance, as
+/// `spt_graph_matrix` has it, the place where its route ends, and the vertices of the routes, one after another. If the
+/// slice for the vertices has too few places for all of them, writes none.
+#[unsafe(no_mangle)]
+pub extern "C" fn spt_graph_routes(
+    alloc: Global,
+    graph: &mut KeptGraph,
+    source: u32,
+    targets: &[u32],
+    dist: &mut [u64],
+    ends: &mut [u64],
+    vertices: &mut [u32],
+) -> SptAnswer
+    ensures told { IsFree graph.old → (told : Outcome) × (result ≡ answer_of told)
+        × AreRoutesOfKept (kept graph.old) source targets.now
+        (route_slices dist.old ends.old vertices.old)
+        (route_slices dist.new ends.new vertices.new) told }
+    ensures in_use { IsInUse graph.old → (result ≡ answer_in_use)
+        × (dist.new ≡ dist.old) × (ends.new ≡ ends.old) × (vertices.new ≡ vertices.old) }
+    ensures same { IsSame graph.old graph.new }
+{
+    let asked = RoutesQuestion { source, targets };
+    of_kept!(alloc, graph, held => SptAnswer::of(write_routes(alloc, held.prepared(), asked, dist, ends, vertices)), SptAnswer::of(Outcome::NoGraph), SptAnswer::in_use())
 }
 
 /// Returns the numbers of vertices and arcs of the kept graph.

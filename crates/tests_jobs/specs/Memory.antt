@@ -13,7 +13,7 @@ text_in (file ∷ more) path = if bytes_eq file.path.now path then Some file.tex
 
 -- Exactly the paths of files are opened. No device fails. A file has one path.
 abbrev pub files_of : List StoredFile → Files
-files_of stored = record { text = text_in stored; opens = λ path. is_some (text_in stored path); failing = λ path. Never; may_show = false; same = λ output input. Some (bytes_eq output input) }
+files_of stored = record { text = text_in stored; opens = λ path. is_some (text_in stored path); failing = λ path. Never; shown = Some false; same = λ output input. Some (bytes_eq output input) }
 
 -- This is what contracts see of a file that was kept: its path and its text.
 abbrev pub kept_of : KeptFile → KeptOutput

@@ -4,7 +4,7 @@ use crate::graphs::{DIAMOND, TWO};
 use sp_device::{OfRead, Peeked, UpToWriter};
 use sp_jobs::{BatchError, Summary, run_batch_told, run_matrix_told, run_nearest_told};
 use sp_network::Direction;
-use sp_pairs::run_pairs_told;
+use sp_pairs::{PairAnswer, run_pairs_told};
 use std::process::Abort;
 use std::sync::Wait;
 use std::test::Fail;
@@ -12,7 +12,7 @@ use std::thread::Threads;
 
 /// The diamond's packed file: numbers of four bytes, lowest byte first. After the mark come the numbers of vertices and arcs, the
 /// ends of the rows, the head and length of each arc, and the sum.
-const PACKED: &[u8] = b"\x89SPT\r\n\x1a\x01\x04\0\0\0\x05\0\0\0\
+pub(crate) const PACKED: &[u8] = b"\x89SPT\r\n\x1a\x01\x04\0\0\0\x05\0\0\0\
 \0\0\0\0\x03\0\0\0\x04\0\0\0\x05\0\0\0\
 \x05\0\0\0\x02\0\0\0\x03\0\0\0\x03\0\0\0\
 \x03\0\0\0\x04\0\0\0\x06\0\0\0\x04\0\0\0\
@@ -125,7 +125,7 @@ fn has_pairs(
     text: &str,
 ) -> bool {
     let mut out = UpToWriter::new(rt.alloc(), 1000, 1000);
-    let answer = run_pairs_told(
+    let answer = run_pairs_told::<_, PairAnswer, _, _, _, _, _>(
         &rt,
         rt.alloc(),
         &mut Peeked::new(OfRead::new(given.gr)),

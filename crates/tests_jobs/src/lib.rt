@@ -32,6 +32,8 @@ mod nearest;
 #[cfg(test)]
 mod outputs;
 #[cfg(test)]
+mod routes;
+#[cfg(test)]
 mod shelf;
 #[cfg(test)]
 mod streams;

@@ -91,6 +91,10 @@ impl<'a> Inputs for Memory<'a> {
         reader(self.stored, path)
     }
 
+    fn is_shown(&self) -> bool {
+        false
+    }
+
     fn is_same_file(&self, output: &str, input: &str) -> bool {
         output == input
     }

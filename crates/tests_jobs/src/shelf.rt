@@ -83,6 +83,10 @@ impl<'a> Inputs for FilesByName<'a> {
         None
     }
 
+    fn is_shown(&self) -> bool {
+        false
+    }
+
     fn is_same_file(&self, _output: &str, _input: &str) -> bool {
         false
     }

@@ -142,7 +142,7 @@ fn writers_that_fail(rt: HostRuntime) -> Result<(), Fail> {
             "o 1 1 5 3 shorter 1 3\no 2 1 5 2 smaller 2 5\nw 1 5 2\nt 2 1\nclosed yes\n",
         ),
         ("spt offers f.off", 0, "w 1 7 2\ne 1\n"),
-        ("spt --version", 0, "spt 1.5.0\n"),
+        ("spt --version", 0, "spt 1.6.0\n"),
     ] {
         fails_behind_each_byte(&rt, rt.alloc(), line, status, text)?;
     }

@@ -46,7 +46,7 @@ fn rooms_keep_their_words(rt: HostRuntime) -> Result<(), Fail> {
     let pool = SearchPool::<28>::new(rt.alloc(), 1);
     let near = PairAnswer::Found { dist: 5, pred: 2 };
     let own = PairAnswer::Found { dist: 0, pred: 0 };
-    let answers = pool.find(rt.alloc(), &graph, 1, &[4, 1, 4]);
+    let answers = pool.find::<PairAnswer>(rt.alloc(), &graph, 1, &[4, 1, 4]);
     assert!(rt; matches!(&answers, Some(told) if told.as_slice() == [near, own, near].as_slice()));
     let part = pool.part(rt.alloc(), &graph, 1, 3);
     assert!(rt; matches!(&part, Some(tree) if has_tree_rows(tree, &FROM_ONE)));

@@ -19,8 +19,8 @@ fn random_arc(random: &mut Random, n: u32, longest: u32) -> (u32, u32, u32)
     (random.up_to(n), random.up_to(n), random.up_to(longest))
 }
 
-// A graph of 1 to 40 vertices with up to two arcs a vertex: loops, parallel arcs, ties and unreached parts come by themselves.
-fn random_graph(
+/// A graph of 1 to 40 vertices with up to two arcs a vertex: loops, parallel arcs, ties and unreached parts come by themselves.
+pub(crate) fn random_graph(
     rt: &(impl Abort + AllocGlobal),
     random: &mut Random,
     longest: u32,

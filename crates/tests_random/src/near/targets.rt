@@ -19,7 +19,13 @@ fn compare(
     want: Result<&[PairAnswer], RunError>,
 ) {
     assert!(rt; graph.n() <= Word::<28>::max_pred());
-    let told = answers_of::<28, ByCaller>(&ByCaller, rt.alloc(), graph, source, targets);
+    let told = answers_of::<28, PairAnswer, ByCaller>(
+        &ByCaller,
+        rt.alloc(),
+        graph,
+        source,
+        targets,
+    );
     match (told, want) {
         (Ok(answers), Ok(want)) => assert!(rt; answers.as_slice() == want),
         (Err(error), Err(want)) => assert!(rt; error == want),
@@ -71,7 +77,7 @@ fn tells(room: &mut SearchBuffers<28>, source: u32, targets: &[u32], want: &[Pai
     requires targets { All (λ t. (1 ≤ t) × (t ≤ room.old.n)) targets.now }
     ensures { room.new ≡ room.old }
 {
-    match room.find(source, targets, 4) {
+    match room.find::<PairAnswer>(source, targets, 4) {
         Ok(Some(answers)) => answers.as_slice() == want,
         Ok(None) | Err(_) => false,
     }

@@ -20,8 +20,8 @@ returns-in-None g c =
     let limit = c.args.limit in
     let words = c.in_ok-found.found.words.items in
     let are = told P graph sources limit _ words _ _ c.up_to-until.ensures c.in-None.is c.in_ok-found.ensures.words in record {
-      size = forest_size P graph sources limit words c.within.result.items _ c.within.ensures are;
-      forest = forest_up_to P graph sources limit words c.within.result.items c.within.ensures are;
+      size = forest_size P graph sources limit words c.words_within.result.items _ c.words_within.ensures are;
+      forest = forest_up_to P graph sources limit words c.words_within.result.items c.words_within.ensures are;
       refused = tt;
     }
 

@@ -1,20 +1,13 @@
-use Rattle.std.proofs.Common.{◌≡◌, ◌<◌, length, arith}
+use Rattle.std.proofs.Common.{◌≡◌, arith}
 use Rattle.std.proofs.lemmas.Bool.Decides.{nat_tests}
-use Rattle.std.specs.Prelude.{slice_index}
-use Rattle.sp_word.specs.Word.{max_dist}
-use Rattle.sp_answer.proofs.TargetAnswers.{answer_at}
 use Rattle.sp_pairs.specs.Slots.{pair_at}
 use Rattle.sp_pairs.proofs.SlotSteps.{kept}
 use Rattle.sp_pairs.proofs.asking.keep_answer.Goals as goal
 
-pub returns-then-target-known-clause-held : goal.returns-then-target-known-clause-held
-returns-then-target-known-clause-held g c =
-    let graph = c.args.graph.now in
-    let known = c.args.known in
+pub returns-then-target-pair-clause-held : goal.returns-then-target-pair-clause-held
+returns-then-target-pair-clause-held g c =
     let pairs = c.args.pairs.now in
-    let place = c.args.place in
-    let k = c.args.k in
-    let source : (pair_at pairs place).0 ≡ known.source = grind (arith, nat_tests, c.if-source-known.true) in
-    let target : (pair_at pairs place).1 ≡ slice_index known.targets.now k = c.if-target-known.true in
-    let low : k < length known.answers.now = omega (arith, c.requires.k, c.requires.size) in
-    rw c.slot_of.ensures (kept g.row.P graph known.source (slice_index known.targets.now k) pairs c.args.slots.now.items place _ c.requires.held source target (answer_at graph known.source (max_dist g.row.P) known.targets.now known.answers.now k _ low c.requires.known))
+    let pair = c.args.pair in
+    let source : (pair_at pairs c.args.place).0 ≡ pair.0 = grind (arith, nat_tests, c.if-source-pair.true) in
+    let target : (pair_at pairs c.args.place).1 ≡ pair.1 = c.if-target-pair.true in
+    kept g.A.TargetAnswer.is_answer c.args.graph.now pairs pair.0 pair.1 c.args.slots.now.items c.args.place c.args.answer c.requires.held source target c.requires.answer

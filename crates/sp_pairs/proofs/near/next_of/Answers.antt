@@ -1,4 +1,4 @@
-use Rattle.std.proofs.Common.{◌∙◌, get_or, refl, sym, arith}
+use Rattle.std.proofs.Common.{◌∙◌, refl, sym, arith}
 use Rattle.std.proofs.lemmas.List.Elements.{Contains-get_or}
 use Rattle.std.proofs.lemmas.Bool.{false≢true}
 use Rattle.sp_serial.proofs.Lowered.{no_arc}
@@ -16,7 +16,7 @@ loop-arc-preserved g c =
     let l = c.loop-arc in
     let decided = rw c.in-Some.is at c.in_ok-is_first.ensures.first in
     rw c.is_first_arc.ensures.graph (elim c.if-is_first.branch [
-      | then-is_first w ↦ rw w.next-is (l.invariant.0, (get_or c.args.row.now l.arc-index no_arc, Contains-get_or c.args.row.now l.arc-index no_arc c.loop-arc-test.true, refl, decided.0 w.if-is_first.true), taken l.room c.args.to c.args.dist c.args.row.now l.arc-index no_arc c.loop-arc-test.true l.next l.invariant.2 (λ is. false≢true (c.if-comes_no_later.ensures.1 is)))
+      | then-is_first w ↦ rw w.next-is (l.invariant.0, (Contains-get_or c.args.row.now l.arc-index no_arc c.loop-arc-test.true, decided.0 w.if-is_first.true), taken l.room c.args.to c.args.dist c.args.row.now l.arc-index no_arc c.loop-arc-test.true l.next l.invariant.2 (λ is. false≢true (c.if-comes_no_later.ensures.1 is)))
       | else-is_first w ↦ rw w.next-is (l.invariant.0, l.invariant.1, passed_by l.room c.args.to c.args.dist c.args.row.now l.arc-index no_arc c.loop-arc-test.true l.next l.invariant.2 (λ first. absurd (false≢true (sym w.if-is_first.false ∙ decided.1 first))))
     ])
 

@@ -1,12 +1,13 @@
-use Rattle.std.proofs.Common.{◌++◌, take, map}
-use Rattle.sp_jobs.specs.PairAnswers.{pairs_text}
-use Rattle.sp_pairs.specs.Slots.{answer_in}
-use Rattle.sp_pairs.proofs.PairLines.{sent_more}
+use Rattle.std.proofs.Common.{arith}
+use Rattle.sp_files.proofs.SentRows.{both_sent}
+use Rattle.sp_pairs.proofs.PairLines.{lines_more, sent_all}
 use Rattle.sp_pairs.proofs.pair_lines.send_lines.Goals as goal
 
 pub loop-place-preserved : goal.loop-place-preserved
-loop-place-preserved g c = λ front start h.
-    let i = c.loop-place.place in
-    let before = pairs_text (take i c.args.pairs.now) (map answer_in (take i c.args.slots.now)) in
-    sent_more g.W.Write c.args.pairs.now c.args.slots.now i _ front start c.send_line.new.out c.send_line.new.printer c.requires.size c.loop-place-test.true
-    (c.send_line.ensures (front ++ before) start (c.loop-place.invariant front start h))
+loop-place-preserved g c =
+    both_sent g.W.Write _ _ _ _ _ _ _ _ _ c.loop-place.invariant c.send_line.ensures
+    (lines_more g.A.PairLine.kind g.A.PairLine.told c.args.pairs.now c.args.slots.now c.loop-place.place c.index-slots-place.result c.index-slots-place.is c.requires.size c.loop-place-test.true)
+
+pub returns : goal.returns
+returns g c =
+    sent_all g.A.PairLine.kind g.A.PairLine.told g.W.Write c.args.pairs.now c.args.slots.now c.loop-place.place c.args.out.now c.loop-place.out c.args.printer.now c.loop-place.printer c.requires.size c.requires.closed (omega (arith, c.loop-place-test.false)) c.loop-place.invariant

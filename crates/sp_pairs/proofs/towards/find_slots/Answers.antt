@@ -17,5 +17,7 @@ returns-clause-held g c =
     let whole = directed way (graph_of c.args.file) in
     let S : Graph → Type 0 = λ searched. AreSame searched kept in
     let same = subst S (sym c.job-job.ensures.graph) c.in_ok-graph.ensures.arcs in
-    IfOk-weaker c.find_answers.result (λ slots. AreHeld g.row.P graph pairs slots.items) (λ slots. AreHeld g.row.P whole pairs slots.items)
-    (λ slots are. held_same g.row.P kept whole pairs slots.items c.in_ok-file.ensures.same (held_same g.row.P graph kept pairs slots.items same are)) c.find_answers.ensures.held
+    let answers = g.A.TargetAnswer.is_answer in
+    let law = g.met.A.PairLine.same in
+    IfOk-weaker c.find_answers.result (λ slots. AreHeld answers graph pairs slots.items) (λ slots. AreHeld answers whole pairs slots.items)
+    (λ slots are. held_same answers kept whole (λ s t a. law kept whole s t a c.in_ok-file.ensures.same) pairs slots.items (held_same answers graph kept (λ s t a. law graph kept s t a same) pairs slots.items are)) c.find_answers.ensures.held

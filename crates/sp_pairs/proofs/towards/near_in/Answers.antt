@@ -21,12 +21,12 @@ returns-clause-held g c =
     let pairs = c.args.pairs.now in
     let graph = c.in_ok-graph.graph in
     let turned = directed Towards (graph_of c.args.file) in
-    rw (c.in-Towards.is, c.unwrap_or-slots.ensures) (if_unwrapped (λ slots. AllZip (IsClosedFor g.row.P graph) pairs slots.items) (λ slots. AreHeld g.row.P turned pairs slots.items) c.near_slots.result
-    (λ slots are. all_held g.row.P graph turned (turned_network c.args.file graph c.in_ok-graph.ensures.n c.in_ok-graph.ensures.arcs) pairs slots.items are) c.near_slots.ensures)
+    rw (c.in-Towards.is, c.unwrap_or-slots.ensures) (if_unwrapped (λ slots. AllZip (IsClosedFor g.A.TargetAnswer.is_answer graph) pairs slots.items) (λ slots. AreHeld g.A.TargetAnswer.is_answer turned pairs slots.items) c.near_slots.result
+    (λ slots are. all_held g.A.TargetAnswer.is_answer graph turned (turned_network c.args.file graph c.in_ok-graph.ensures.n c.in_ok-graph.ensures.arcs) pairs slots.items are) c.near_slots.ensures)
 
 pub returns-clause-closed : goal.returns-clause-closed
 returns-clause-closed g c =
     let pairs = c.args.pairs.now in
     let graph = c.in_ok-graph.graph in
-    rw c.unwrap_or-slots.ensures (if_unwrapped (λ slots. AllZip (IsClosedFor g.row.P graph) pairs slots.items) (λ slots. All IsClosed slots.items) c.near_slots.result
-    (λ slots are. all_closed g.row.P graph pairs slots.items are) c.near_slots.ensures)
+    rw c.unwrap_or-slots.ensures (if_unwrapped (λ slots. AllZip (IsClosedFor g.A.TargetAnswer.is_answer graph) pairs slots.items) (λ slots. All IsClosed slots.items) c.near_slots.result
+    (λ slots are. all_closed g.A.TargetAnswer.is_answer graph pairs slots.items are) c.near_slots.ensures)

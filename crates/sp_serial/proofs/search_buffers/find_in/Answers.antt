@@ -12,4 +12,4 @@ answers-answers-requires g c =
     let targets = c.args.targets in
     let told = OnTrue_at c.if-not-branch.false ((c.in_ok-reach.ensures {u = tt}).told) in
     let are = target_words g.row.P graph s c.reach.new.tracked.words.items None targets c.requires.targets told in
-    (omega arith, subst (λ (ws : List Word). AreTargetWords g.row.P graph s targets.now ws None) (sym (ap (λ x. x.items) c.replace-words.ensures.value)) are)
+    (omega arith, (c.requires.source, subst (λ (ws : List Word). AreTargetWords g.row.P graph s targets.now ws None) (sym (ap (λ x. x.items) c.replace-words.ensures.value)) are))

@@ -16,7 +16,7 @@ of_words-requires g c =
     let slice = c.as_slice.result.now in
     let W : Option ℕ → Type 0 = λ o. AreForestWords g.row.P graph sources limit words o in
     let told = subst W c.in-None.is c.requires.words in
-    let made = c.as_slice.ensures.value ∙ c.within-words.ensures in
+    let made = c.as_slice.ensures.value ∙ c.words_within-words.ensures in
     let size = forest_size g.row.P graph sources limit words slice _ made told in
     let law = law_of g.row.P graph c.n.ensures.graph sources told.vertices limit (word_at slice) (forest_up_to g.row.P graph sources limit words slice made told) in (
       omega arith,
@@ -41,7 +41,7 @@ returns-in-Ok-clause-forest g c =
     let slice = c.as_slice.result.now in
     let W : Option ℕ → Type 0 = λ o. AreForestWords g.row.P graph sources limit words o in
     let told = subst W c.in-None.is c.requires.words in
-    let made = c.as_slice.ensures.value ∙ c.within-words.ensures in
+    let made = c.as_slice.ensures.value ∙ c.words_within-words.ensures in
     let size = forest_size g.row.P graph sources limit words slice _ made told in
     answer_is g.row.P graph c.n.ensures.graph sources told.vertices limit slice size (forest_up_to g.row.P graph sources limit words slice made told) c.in-Ok.forest c.in-Ok.ensures.n c.in-Ok.ensures.words c.in-Ok.ensures.roots
 
