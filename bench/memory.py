@@ -84,7 +84,8 @@ def figures(program, folder):
     yield "a source", slope(("tree", point, list_of_sources, *tree), ("tree", point, one, *tree), MILLION)
     # (no walk leads to the one target, so that a run is made for it too)
     asked, short = pairs(folder, MILLION, MILLION), put(folder, "far.pairs", ["p pairs 1", "q 1 2"])
-    yield "a pair", slope(("pairs", alone, asked, *tree), ("pairs", alone, short, *tree), MILLION)
+    for name, more in (("a pair", tree), ("a pair with `--routes`", (*tree, "--routes"))):
+        yield name, slope(("pairs", alone, asked, *more), ("pairs", alone, short, *more), MILLION)
     roads = f"{folder}/roads.gr"
     graphs.write_graph(roads, "roads", MILLION, 1)
     one_worker = ("tree", roads, one, *tree, "--workers", "1")

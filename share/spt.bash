@@ -21,7 +21,7 @@ _spt() {
     fi
     case ${COMP_WORDS[1]} in
         tree) words='--source --sources --within --delta --towards --both-ways --workers --far-ok --progress --pred-bits --output --help' ;;
-        pairs) words='--delta --towards --both-ways --workers --far-ok --progress --pred-bits --output --help' ;;
+        pairs) words='--routes --delta --towards --both-ways --workers --far-ok --progress --pred-bits --output --help' ;;
         matrix) words='--source --target --sources --delta --towards --both-ways --workers --far-ok --progress --pred-bits --output --help' ;;
         nearest) words='--source --sources --within --delta --towards --both-ways --workers --far-ok --progress --pred-bits --output --help' ;;
         check) words='--towards --both-ways --all --within --pred-bits --output --help' ;;

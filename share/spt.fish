@@ -19,6 +19,7 @@ complete -c spt -n '__fish_seen_subcommand_from tree' -l progress -d 'Report pro
 complete -c spt -n '__fish_seen_subcommand_from tree' -l pred-bits -x -a '20 24 28 32' -d 'Bits of a word that hold the predecessor'
 complete -c spt -n '__fish_seen_subcommand_from tree' -l output -r -d 'Write the output to the file OUT instead of standard output'
 complete -c spt -n '__fish_seen_subcommand_from tree' -l help -d 'Print help'
+complete -c spt -n '__fish_seen_subcommand_from pairs' -l routes -d 'Write the vertices of the route for each pair'
 complete -c spt -n '__fish_seen_subcommand_from pairs' -l delta -x -a 'mean' -d 'The width of a bucket of tentative distances'
 complete -c spt -n '__fish_seen_subcommand_from pairs' -l towards -d 'Reverse each arc'
 complete -c spt -n '__fish_seen_subcommand_from pairs' -l both-ways -d 'Use each arc in both directions'

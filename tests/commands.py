@@ -16,7 +16,7 @@ import sys
 import tempfile
 
 sys.dont_write_bytecode = True
-from cases import check, matrix, nearest, offers, packed, pairs, replay, shared, tree, words  # noqa: E402
+from cases import check, matrix, nearest, offers, packed, pairs, replay, routes, shared, tree, words  # noqa: E402
 from harness import try_all  # noqa: E402
 
 SECONDS = 120
@@ -51,7 +51,7 @@ def is_met(case, told):
 
 def tables(count, program, folder):
     with concurrent.futures.ThreadPoolExecutor(os.cpu_count()) as pool:
-        for table in (tree, pairs, matrix, nearest, check, packed, offers, replay, words):
+        for table in (tree, pairs, routes, matrix, nearest, check, packed, offers, replay, words):
             cases = table.cases()
             for case, told in zip(cases, pool.map(lambda case: run(program, folder, case), cases)):
                 name = table.__name__.split(".")[-1]

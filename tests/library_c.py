@@ -41,7 +41,8 @@ BROUGHT = {"SPT_1.0": {"spt_check", "spt_gr", "spt_graph_free", "spt_graph_new",
            "SPT_1.1": {"spt_graph_counts", "spt_graph_pair", "spt_version"},
            "SPT_1.2": {"spt_graph_matrix", "spt_graph_nearest", "spt_graph_within"},
            "SPT_1.3": {"spt_graph_part"},
-           "SPT_1.4": {"spt_graph_both_ways", "spt_graph_load", "spt_graph_save", "spt_graph_turned"}}
+           "SPT_1.4": {"spt_graph_both_ways", "spt_graph_load", "spt_graph_save", "spt_graph_turned"},
+           "SPT_1.6": {"spt_graph_route", "spt_graph_routes"}}
 # a program that is linked with a library whose symbols have no versions, as that of 1.0.0 was
 OLD = """#include <spt.h>
 int main(void) {
@@ -112,7 +113,7 @@ def great_graph(folder, program):
 
 def try_compiler(count, compiler, prefix, folder, great, wanted):
     static, shared = flags(prefix, True), flags(prefix, False)
-    for name, more in (("refusals", []), ("near", []), ("packed", []), ("memory", WRAPPED), ("in_use", WRAPPED), ("header", [])):
+    for name, more in (("refusals", []), ("near", []), ("routes", []), ("packed", []), ("memory", WRAPPED), ("in_use", WRAPPED), ("header", [])):
         program = build(count, compiler, folder, name, static, *SANITIZED, *more)
         if program:
             add_counts(count, f"{compiler} {name}", [program])

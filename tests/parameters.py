@@ -30,15 +30,13 @@ LIKE_MATRIX = "it takes what run_batch_told takes, and the targets"
 LIKE_NEAREST = "it takes what run_batch_told takes"
 # what stands between a function whose parameters are specified and what it calls
 BETWEEN = "it hands on what the function above takes"
-# what does the same by several threads
-BY_THREADS = "it takes what judge_alone takes, the marks, and what several threads need"
 EXCEPTIONS = {
-    ("sp_judge", "judge_by"): BY_THREADS,
     ("spt_c", "spt_tree"): OF_C,
     ("spt_c", "spt_trees"): OF_C,
     ("spt_c", "spt_graph_within"): OF_C,
     ("spt_c", "spt_graph_part"): OF_C,
     ("spt_c", "spt_graph_nearest"): OF_C,
+    ("spt_c", "spt_graph_routes"): OF_C,
     ("sp_phase", "run_source_with"): SPECIFIED,
     ("sp_phase", "run_pair"): SPECIFIED,
     ("sp_phase", "run_pair_with"): SPECIFIED,

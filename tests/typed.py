@@ -35,6 +35,8 @@ LINES = {
     "tree.lengths.walk": 'has no attribute "walk"',
     "length: float = pair.length if pair else 0.0": "",
     "route = graph.route(1, 3)": "",
+    "arcs: list[int] = route.arcs if route else []": "",
+    "routes: list[spt.Route | None] = graph.routes([(1, 3)], workers=2)": "",
     "told: str = repr(graph.nearest([1]).source(3))": "",
     "pair.length": 'Item "None" of "Optional[Pair]" has no attribute "length"',
     "route.vertices": 'Item "None" of "Optional[Route]" has no attribute "vertices"',

@@ -14,8 +14,9 @@ with a `unit`. If there are several shortest paths to a vertex, its predecessor 
 any of them, so there is exactly one right result. The distance of an unreachable vertex is UNREACHED, 2^64 - 1, which wraps
 around in sums (`Tree.masked`, `Tree.floats`).
 
-With `towards=True` paths lead to a source, and with `both_ways=True` each arc of a graph leads both ways. `Graph.save` packs a
-graph into a file, and `Graph.load` reads it.
+`Graph.routes` finds the paths of many pairs, and `Route.arcs` are the rows of the arcs that a path takes. With `towards=True` paths
+lead to a source, and with `both_ways=True` each arc of a graph leads both ways. `Graph.save` packs a graph into a file, and
+`Graph.load` reads it.
 
 NetworkX 3.4 and later can leave its shortest paths to the package: NETWORKX_BACKEND_PRIORITY=spt (`spt._networkx`).
 `python -m spt` answers from CSV files.
@@ -31,7 +32,7 @@ from ._library import LibraryNotFound, reach
 from ._names import Names
 from ._trees import Part, Route
 
-__version__ = "1.5.0"
+__version__ = "1.6.0"
 __all__ = [
     "BEYOND",
     "UNREACHED",

@@ -6,6 +6,7 @@ import array
 import itertools
 import math
 
+from collections.abc import Mapping
 from typing import Any, Iterable, Optional, Sequence
 
 from ._buffers import in_bytes
@@ -18,6 +19,7 @@ from ._share import Workers
 
 # SciPy's predecessor of a vertex that has none
 _NONE = -9999
+_PAIRS = "pairs are a list of a source and a target each, an array of shape (k, 2), or a frame of two columns"
 
 
 def _by_function(nodes: Sequence[Any], rows: Sequence[Row], weight: Any) -> tuple[array.array[int], array.array[int], list[Any]]:
@@ -164,10 +166,11 @@ def nodes_of(nodes: Any) -> Any:
 
 def arcs_of_frame(
     edges: Any, columns: Sequence[Any], scale: Scale, back: Any = None, nodes: Any = None
-) -> tuple[Any, memoryview]:
-    """Returns the names, in the order of their numbers, and the arcs between them.
+) -> tuple[Any, memoryview, Optional[memoryview]]:
+    """Returns the names, in the order of their numbers, the arcs between them, and which rows lead back as well.
 
-    The names in `nodes` come first. If there is a column `back`, the arcs of its two-way rows are added at the end, reversed.
+    The names in `nodes` come first. If there is a column `back`, the arcs of its two-way rows are added at the end, reversed, and these
+    rows are the last result; it is None without such a column.
     """
     wanted = [*columns, *([] if back is None else [back])]
     found = [_column(edges, name) for name in wanted]
@@ -187,11 +190,12 @@ def arcs_of_frame(
     whole = whole_lengths(lengths, scale)
     if whole is None:
         raise _first_length(len(names), list(zip(*map(_listed, (tails, heads, lengths)))), scale)
-    if back is not None:
-        lead_back = _flags(_listed(found[3]), back)
-        turned = [array.array("I", itertools.compress(it, lead_back)) for it in (ends, begins, whole)]
-        begins, ends, whole = (_behind(*both) for both in zip((begins, ends, whole), turned))
-    return names, joined(begins, ends, whole)
+    if back is None:
+        return names, joined(begins, ends, whole), None
+    lead_back = _flags(_listed(found[3]), back)
+    turned = [array.array("I", itertools.compress(it, lead_back)) for it in (ends, begins, whole, range(rows[0]))]
+    begins, ends, whole = (_behind(*both) for both in zip((begins, ends, whole), turned))
+    return names, joined(begins, ends, whole), memoryview(turned[3])
 
 
 def _behind(numbers: memoryview, more: array.array[int]) -> memoryview:
@@ -221,6 +225,27 @@ def _first_length(n: int, arcs: Sequence[Any], scale: Scale) -> Exception:
         if why:
             return BadArc(n, index, (tail, head, length), f"from {tail!r} to {head!r}: {why}")
     return ValueError("the lengths changed while they were read")
+
+
+def pairs_of(given: Any) -> Sequence[Sequence[Any]]:
+    """Returns pairs of vertices, given as a list, an array or a frame. ValueError, TypeError: they have the wrong form."""
+    if hasattr(given, "columns") or isinstance(given, Mapping):
+        titles = list(getattr(given, "columns", given))
+        if len(titles) != 2:
+            raise ValueError(f"columns {', '.join(map(repr, titles))}: {_PAIRS}")
+        columns = [given.iloc[:, at] for at in range(2)] if hasattr(given, "iloc") else [given[title] for title in titles]
+        return list(zip(*map(_listed, columns)))
+    if getattr(given, "ndim", 1) != 1:
+        if given.ndim != 2 or given.shape[1] != 2:
+            raise ValueError(f"an array of shape {given.shape}: {_PAIRS}")
+        return list(given.tolist())
+    listed = list(given)
+    for index, pair in enumerate(listed):
+        if isinstance(pair, (str, bytes, set, frozenset)) or not hasattr(pair, "__len__"):
+            raise TypeError(f"pair {index} is {pair!r}: {_PAIRS}")
+        if len(pair) != 2:
+            raise ValueError(f"pair {index} is {pair!r}: {_PAIRS}")
+    return listed
 
 
 def _entries(matrix: Any) -> tuple[tuple[int, ...], Any, Any, Any]:

@@ -6,24 +6,25 @@ import itertools
 import operator
 import os
 
-from typing import Any, BinaryIO, Iterable, Iterator, List, Optional, Tuple, Union
+from typing import Any, BinaryIO, Dict, Iterable, Iterator, List, Optional, Tuple, Union
 
 from . import _convert
 from ._buffers import address, column, in_bytes, kept, words, zeros
 from ._faults import KINDS, BadArc, BadDelta, Fault, SptError, TooFar
 from ._files import given_file, save, terms_of
+from ._given import GivenArcs, Steps
 from ._hints import is_packed, second_line, word_line
 from ._kept import Kept, failure
 from ._lengths import Scale, arc_fault, numbers_of, refuse_frame, scale_of
 from ._library import (
-    BAD_ARC, BAD_TEXT, HAS_NEAR, HAS_PACKED, HAS_PAIR, HAS_PART, MOST_VERTICES, NO_LIMIT, OK, TOO_FAR, WRONG, Batch, Found, Part,
-    library, reach,
+    BAD_ARC, BAD_TEXT, HAS_NEAR, HAS_PACKED, HAS_PAIR, HAS_PART, HAS_ROUTES, MOST_VERTICES, NO_LIMIT, OK, TOO_FAR, WRONG, Batch, Found,
+    Part, library, reach,
 )
 from ._names import Names, names_for
 from ._packed import turned
 from ._share import Pace, Progress, Workers, in_order, workers_of
 from ._terms import Terms
-from ._trees import BEYOND, UNREACHED, Forest, Matrix, Pair, Route, Tree, in_rows, pair_of, pickled
+from ._trees import BEYOND, UNREACHED, Forest, Matrix, Pair, Route, Tree, in_rows, pair_of, pickled, route_of
 
 __all__ = ["BEYOND", "UNREACHED", "Forest", "Graph", "Matrix", "Pair", "Tree"]
 
@@ -45,6 +46,12 @@ def _want_packed() -> None:
     if not HAS_PACKED:
         told = "it has no spt_graph_load, spt_graph_save, spt_graph_turned or spt_graph_both_ways"
         raise SptError(f"the library is older than 1.4: {told}")
+
+
+def _want_routes() -> None:
+    """Raises an error if the library lacks `spt_graph_routes` and its companion."""
+    if not HAS_ROUTES:
+        raise SptError("the library is older than 1.6: it has no spt_graph_route or spt_graph_routes")
 
 
 def _unpacked(data: Any, name: str) -> Kept:
@@ -88,6 +95,18 @@ def _column_of(both_ways: Any) -> Any:
 
 # the trees of a block of sources, up to the first source without one, and the reason why it has none
 _Solved = Tuple[List[Tree], Optional[Exception]]
+# the routes to the targets of a source
+_Routes = List[Optional[Route]]
+
+
+def _by_source(pairs: Iterable[Tuple[int, int]]) -> Tuple[Dict[int, Dict[int, Optional[Route]]], List[int]]:
+    """Returns a place for the route to each target of each source, and how many pairs the sources up to each one have."""
+    places: Dict[int, Dict[int, Optional[Route]]] = {}
+    counts: Dict[int, int] = {}
+    for source, target in pairs:
+        places.setdefault(source, {})[target] = None
+        counts[source] = counts.get(source, 0) + 1
+    return places, list(itertools.accumulate(counts.values()))
 
 
 def _each(solved: _Solved) -> Iterator[Tree]:
@@ -104,9 +123,9 @@ class Graph:
     array('I') or a memoryview. With `both_ways` each arc also leads back, from its head to its tail. Several threads may use one
     graph. It can be copied and pickled.
 
-    The library keeps the graph in its own form, ready for each tree. The Graph also keeps a copy of the numbers, 12 bytes per arc,
-    for `arcs` and `check`, so you may change your list afterwards. A graph that was loaded, turned or made both ways makes these
-    numbers when they are first needed.
+    The library keeps the graph in its own form, ready for each tree. The Graph also keeps a copy of the numbers, 12 bytes per arc
+    that you gave, for `arcs`, `check` and `Route.arcs`, so you may change your list afterwards. A graph that was loaded, turned or
+    made both ways makes the numbers of its own arcs when they are first needed.
 
     Lengths are whole numbers from 1 to 4294967295. With `unit` they may be any numbers above 0, and each is rounded to a whole
     number of units, `round(length / unit)`. Results are exact for the rounded lengths, so the length of a path of k arcs is within
@@ -129,6 +148,8 @@ class Graph:
     [0, 15, 17]
     """
 
+    # whether its arcs are those given, reversed
+    _is_turned = False
     # whether its trees have the paths towards their sources, as in a twin with reversed arcs
     _towards = False
 
@@ -153,26 +174,28 @@ class Graph:
         self._keep(Terms(n, names, scale.unit), numbers_of(n, arcs, scale), both_ways)
 
     @classmethod
-    def _of(cls, terms: Terms, numbers: memoryview, both_ways: bool = False) -> Graph:
-        """Returns the graph with these numbers."""
+    def _of(cls, terms: Terms, numbers: memoryview, both_ways: bool = False, back: Optional[memoryview] = None) -> Graph:
+        """Returns the graph with these numbers. If there is a list `back`, the last arcs lead back from its rows (`GivenArcs`)."""
         graph = cls.__new__(cls)
-        graph._keep(terms, numbers, both_ways)
+        graph._keep(terms, numbers, both_ways, back)
         return graph
 
     @classmethod
-    def _with(cls, terms: Terms, kept: Kept) -> Graph:
+    def _with(cls, terms: Terms, kept: Kept, both_ways: bool = False) -> Graph:
         """Returns the graph that the library already keeps."""
         graph = cls.__new__(cls)
-        graph._terms, graph._kept = terms, kept
+        graph._terms, graph._given = terms, GivenArcs(kept, both_ways)
+        graph._kept = kept.both_ways() if both_ways else kept
         return graph
 
-    def _keep(self, terms: Terms, numbers: memoryview, both_ways: bool) -> None:
+    def _keep(self, terms: Terms, numbers: memoryview, both_ways: bool, back: Optional[memoryview] = None) -> None:
         if both_ways:
             _want_packed()
         self._terms = terms
         self._kept, told = Kept.of_arcs(terms.n, numbers)
         if told.status != OK:
             raise self._refused(told.status, told.vertex, told.index, 0)
+        self._given = GivenArcs(numbers, both_ways, back)
         if both_ways:
             self._kept = self._kept.both_ways()
 
@@ -191,7 +214,7 @@ class Graph:
         """The numbers of the arcs, three for each: tail, head and length. They are read-only.
 
         Their order is that of the arcs you gave. If the graph was loaded, turned or made both ways, they are ordered by tail, then
-        head, then length, and are made when they are first needed.
+        head, then length, and are made when they are first needed. (`Route.arcs` has the places of the arcs that you gave.)
         """
         return self._kept.numbers()
 
@@ -217,17 +240,22 @@ class Graph:
         return twin
 
     def __reduce_ex__(self, protocol: Any) -> tuple[Any, ...]:
-        if self._kept.has_numbers:
-            return type(self)._again, (self._terms, pickled(self.arcs, protocol))
-        return type(self)._unpacked_again, (self._terms, pickled(self._kept.packed(), protocol))
+        given = self._given
+        ways = given.leads_back, self._is_turned
+        if isinstance(given.arcs, Kept) and not given.arcs.has_numbers:
+            return type(self)._unpacked_again, (self._terms, pickled(given.arcs.packed(), protocol), *ways)
+        back = None if given.back is None else pickled(given.back, protocol)
+        return type(self)._again, (self._terms, pickled(given.numbers(), protocol), *ways, back)
 
     @classmethod
-    def _again(cls, terms: Terms, arcs: Any) -> Graph:
-        return cls._of(terms, kept(in_bytes(arcs, "I")))
+    def _again(cls, terms: Terms, arcs: Any, both_ways: bool = False, is_turned: bool = False, back: Any = None) -> Graph:
+        graph = cls._of(terms, kept(in_bytes(arcs, "I")), both_ways, None if back is None else kept(in_bytes(back, "I")))
+        return graph.turned() if is_turned else graph
 
     @classmethod
-    def _unpacked_again(cls, terms: Terms, packed: Any) -> Graph:
-        return cls._with(terms, _unpacked(packed, "gr"))
+    def _unpacked_again(cls, terms: Terms, packed: Any, both_ways: bool = False, is_turned: bool = False) -> Graph:
+        graph = cls._with(terms, _unpacked(packed, "gr"), both_ways)
+        return graph.turned() if is_turned else graph
 
     def _numbered(self, unit: Optional[float]) -> Graph:
         """Returns the same graph without names, and in another unit."""
@@ -279,8 +307,7 @@ class Graph:
     @classmethod
     def _loaded(cls, data: bytes, name: str, path: Optional[str], both_ways: bool) -> Graph:
         kept = _unpacked(data, name)
-        terms = terms_of(path, kept.n, kept.m, data)
-        return cls._with(terms, kept.both_ways() if both_ways else kept)
+        return cls._with(terms_of(path, kept.n, kept.m, data), kept, both_ways)
 
     def save(self, file: File) -> None:
         """Packs the graph into a file, which `load`, `read` and each command of `spt` accept.
@@ -329,7 +356,7 @@ class Graph:
         """
         _want_packed()
         twin = self.__copy__()
-        twin._kept = self._kept.turned()
+        twin._kept, twin._is_turned = self._kept.turned(), not self._is_turned
         return twin
 
     def _facing(self, towards: bool) -> Graph:
@@ -432,16 +459,18 @@ class Graph:
         >>> Graph.from_frame(roads, "u", "v", "minutes", unit=0.5, nodes=["Farm", "Mill"]).names
         ('Farm', 'Mill', 'Depot', 'Quay')
         """
-        scale, back = scale_of(unit, zero), _column_of(both_ways)
-        names, arcs = _convert.arcs_of_frame(edges, (tail, head, length), scale, back, nodes)
-        return cls._named(names, arcs, scale.unit, back is None and bool(both_ways))
+        scale, column = scale_of(unit, zero), _column_of(both_ways)
+        names, arcs, back = _convert.arcs_of_frame(edges, (tail, head, length), scale, column, nodes)
+        return cls._named(names, arcs, scale.unit, column is None and bool(both_ways), back)
 
     @classmethod
-    def _named(cls, names: Any, arcs: memoryview, unit: Optional[float], both_ways: bool = False) -> Graph:
+    def _named(
+        cls, names: Any, arcs: memoryview, unit: Optional[float], both_ways: bool = False, back: Optional[memoryview] = None
+    ) -> Graph:
         """Returns the graph whose vertices have these names, in the order of their numbers."""
         if not len(names):
             raise ValueError(f"a graph has 1 to {MOST_VERTICES} vertices, not 0")
-        return cls._of(Terms(len(names), names, unit), arcs, both_ways)
+        return cls._of(Terms(len(names), names, unit), arcs, both_ways, back)
 
     def to_scipy(self) -> Any:
         """Returns a SciPy sparse array (csr, float64); row i is vertex i + 1. It has the shortest of parallel arcs.
@@ -606,35 +635,113 @@ class Graph:
         return None if told.dist == UNREACHED else (told.dist, told.pred)
 
     def route(self, source: Any, target: Any, *, towards: bool = False) -> Optional[Route]:
-        """Returns the vertices of a shortest path, as `path` does, with its distance; None if there is no path.
-
-        The search goes as far as the target: once for its distance, and once within that for the path.
+        """Returns a shortest path as a `Route`: its vertices, as in `path`, its distance, length and arcs; None if there is no path.
 
         >>> graph = Graph(3, [(1, 2, 2.5), (2, 3, 4)], unit=0.5)
-        >>> graph.route(1, 3), graph.route(3, 1)
-        (Route(vertices=(1, 2, 3), distance=13, length=6.5), None)
+        >>> graph.route(1, 3), graph.route(1, 3).arcs, graph.route(3, 1)
+        (Route(vertices=(1, 2, 3), distance=13, length=6.5), [0, 1], None)
         """
         begin, end, facing = self._terms.number(source), self._terms.number(target), self._facing(towards)
-        found = facing._pair(begin, end)
-        if found is None:
-            return None
-        walk = facing._tree(begin, found[0] if HAS_NEAR else None)._walk(begin, end)
-        return Route(tuple(walk or ()), found[0], self._terms.told(found[0]))
+        found = facing._found(begin, end)
+        return found and facing._route(*found, facing._steps())
+
+    def routes(
+        self, pairs: Any, workers: Workers = 1, *, towards: bool = False, progress: Progress = None
+    ) -> List[Optional[Route]]:
+        """Returns a list of the routes for these pairs of a source and a target, in order; None where there is no path.
+
+        `pairs` is a list of pairs, an array of shape (k, 2), or a frame of two columns, with the sources first. Each route is the one
+        that `route` returns, and its `arcs` are the rows of the arcs that it takes (`Route`). With `towards`, it leads from the target
+        to the source. Pairs with the same source share one search, which ends with the last of their targets, and equal pairs share
+        a route.
+
+        `workers` threads search; "all" is one for each processor, at most 64. The calling thread calls `progress`, if there is one,
+        every few sources with the number of pairs found and their total. The exceptions are those of `pair`: if it raises TooFar for
+        one of the pairs, so does this call, and it returns no route. SptError: the library is older than 1.6.
+
+        >>> graph = Graph(4, [(1, 2, 3), (1, 3, 3), (2, 4, 2), (3, 4, 2)])
+        >>> [route and route.vertices for route in graph.routes([(1, 4), (1, 1), (4, 1)])]
+        [(1, 2, 4), (1,), None]
+        >>> graph.routes([(4, 1)], towards=True)
+        [Route(vertices=(1, 2, 4), distance=5, length=5)]
+        """
+        threads, number = workers_of(workers), self._terms.number
+        asked = [(number(source), number(target)) for source, target in _convert.pairs_of(pairs)]
+        facing = self._facing(towards)
+        _want_routes()
+        found, ends = _by_source(asked)
+        sources, steps = list(found), facing._steps()
+
+        def call(at: int, end: int) -> None:
+            for source in sources[at:end]:
+                targets = list(found[source])
+                found[source].update(zip(targets, facing._routes(source, targets, steps)))
+
+        def report(done: int, total: int) -> None:
+            if progress is not None:
+                progress(ends[done - 1], ends[-1])
+
+        for _ in in_order(len(sources), threads, Pace(len(sources)), call, report):
+            pass
+        return [found[source][target] for source, target in asked]
+
+    def _routes(self, source: int, targets: List[int], steps: Steps) -> _Routes:
+        """Returns the routes to several targets of a source, all by number. TooFar: one has no distance, and may be too far."""
+        if len(targets) == 1:
+            found = self._found(source, targets[0])
+            return [found and self._route(*found, steps)]
+        told, (distances, ends, vertices) = self._kept.routes(source, words(targets))
+        if told.status != OK:
+            raise self._refused(told.status, told.vertex, told.index, source)
+        if BEYOND in distances:
+            pair = self._kept.pair(source, targets[distances.tolist().index(BEYOND)])
+            raise self._refused(pair.status, pair.pred, pair.index, source)
+        routes: _Routes = []
+        for distance, begin, end in zip(distances, [0, *ends], ends):
+            there = distance != UNREACHED
+            routes.append(self._route(distance, vertices[begin:end].tolist(), steps) if there else None)
+        return routes
+
+    def _found(self, source: int, target: int) -> Optional[Tuple[int, List[int]]]:
+        """Returns the distance of a target, and the vertices from the source to it, all by number."""
+        if not HAS_ROUTES:
+            found = self._pair(source, target)
+            if found is None:
+                return None
+            tree = self._tree(source, found[0] if HAS_NEAR else None)
+            return found[0], (tree._back(source, target) or [])[::-1]
+        told, vertices = self._kept.route(source, target)
+        if told.status != OK:
+            raise self._refused(told.status, told.vertex, told.index, source)
+        return None if told.dist == UNREACHED else (told.dist, vertices)
+
+    def _route(self, distance: int, vertices: List[int], steps: Steps) -> Route:
+        """Returns the route with these vertices, given by number from the source to the target of its search."""
+        return route_of(self._travelled(vertices), distance, self._terms, steps)
+
+    def _travelled(self, vertices: List[int]) -> Tuple[Any, ...]:
+        """Returns the names of vertices, given by number from the source to the target of a search, in the order of travel."""
+        return self._terms.names_of(vertices[::-1] if self._towards else vertices)
+
+    def _steps(self) -> Steps:
+        """Returns how the arcs of its routes are found. These are in the order of travel, so `towards` doesn't reverse them."""
+        return Steps(self._terms, self._given, self._is_turned != self._towards)
 
     def path(self, source: Any, target: Any, *, towards: bool = False) -> Optional[list[Any]]:
         """Returns the vertices of a shortest path, the one with the smallest-numbered predecessors; None if there is no path.
 
         They are in the order of travel: from the source to the target, or, with `towards`, from the target to the source.
 
-        A short path takes little time. A long one takes about as long as a tree, at most twice as long, so for several targets of
-        one source use its `tree`. The exceptions are those of `tree`; a TooFar only if the target may be too far.
+        The search ends when the target is found, as that of `pair` does, so a short path takes little time. For several pairs use
+        `routes`. The exceptions are those of `pair`. With a library older than 1.6 a long path takes up to twice as long as a tree.
 
         >>> graph = Graph(3, [(1, 2, 7), (2, 3, 1)])
         >>> graph.path(1, 3), graph.path(3, 1, towards=True)
         ([1, 2, 3], [1, 2, 3])
         """
-        route = self.route(source, target, towards=towards)
-        return route and list(route.vertices)
+        begin, end, facing = self._terms.number(source), self._terms.number(target), self._facing(towards)
+        found = facing._found(begin, end)
+        return found and list(facing._travelled(found[1]))
 
     def check(self, tree: Tree) -> Any:
         """Returns None if this is the tree from its source, otherwise the lowest vertex whose distance or predecessor is wrong.

@@ -7,21 +7,44 @@ import weakref
 
 from contextlib import contextmanager
 from ctypes import byref
-from typing import Any, Callable, Iterator, List, Optional, Sequence, Tuple
+from math import isqrt
+from typing import Any, Callable, Iterator, List, NamedTuple, Optional, Sequence, Tuple
 
 from ._buffers import address, in_bytes, zeros
 from ._faults import SptError
-from ._library import BAD_SIZE, IN_USE, MEMORY, OK, Answer, Batch, Found, Packed, Part, Place, library
+from ._library import BAD_SIZE, IN_USE, MEMORY, OK, Answer, Batch, Found, FoundRoute, Packed, Part, Place, library
 from ._packed import numbers_of
 
 # a list of the vertices of a part, their distances and their predecessors
 Listed = Tuple[memoryview, memoryview, memoryview]
 # the most arcs of a packed graph
 MOST_PACKED = 1 << 30
+# the most places of a list for routes that is used again
+_MOST_KEPT = 1 << 24
+
+
+class FoundRoutes(NamedTuple):
+    """The routes to several targets: the distance of each, the end of its route in the list, and the vertices of all routes."""
+
+    distances: memoryview
+    ends: memoryview
+    vertices: memoryview
+
+
+class _Room(NamedTuple):
+    """A list for the vertices of routes, and its address and length, as the library takes them."""
+
+    vertices: memoryview
+    slice: Tuple[int, int]
+
+
+def _room_of(places: int) -> _Room:
+    vertices = zeros("I", places)
+    return _Room(vertices, (address(vertices), places))
 
 
 class _Handle:
-    """A handle on a graph for one call at a time, with lists for the parts of trees that its calls find.
+    """A handle on a graph for one call at a time, with lists for the parts of trees and the routes that its calls find.
 
     The library refuses a place that another call is using (IN_USE). Here that can't happen: a thread takes a handle out of the list
     for its call, and fills a new one under a lock.
@@ -30,12 +53,22 @@ class _Handle:
     def __init__(self) -> None:
         self.place = Place()
         self.lists: Optional[Listed] = None
+        self._room = _room_of(0)
 
     def listed(self, places: int) -> Listed:
         """Returns lists with this number of places."""
         if self.lists is None:
             self.lists = zeros("I", places), zeros("Q", places), zeros("I", places)
         return self.lists
+
+    def room(self, places: int) -> _Room:
+        """Returns a list with at least this number of places, which later calls use again unless it is very large."""
+        if self._room.slice[1] >= places:
+            return self._room
+        made = _room_of(places)
+        if places <= _MOST_KEPT:
+            self._room = made
+        return made
 
 
 def _free(handles: List[_Handle]) -> None:
@@ -76,6 +109,8 @@ class Kept:
         # how many vertices a part in a list may have, and the least limit, if any, that was too great for that
         self._places = n // 64 + 64
         self._large: Optional[int] = None
+        # how many vertices a route may have at first
+        self._usual = min(max(1024, 16 * isqrt(n)), n)
 
     @classmethod
     def of_arcs(cls, n: int, arcs: memoryview) -> Tuple[Kept, Answer]:
@@ -157,6 +192,32 @@ class Kept:
                 return Found(status)
             told: Found = library.spt_graph_pair(byref(own.place), source, target, 0)
         return told
+
+    def route(self, source: int, target: int) -> Tuple[FoundRoute, List[int]]:
+        """Finds one target of a source, and returns the vertices of its route. The search ends when it is found."""
+        with self._shared() as (own, status):
+            if status != OK:
+                return FoundRoute(status), []
+            room = own.room(self._usual)
+            told: FoundRoute = library.spt_graph_route(byref(own.place), source, target, *room.slice)
+            if told.count > len(room.vertices):
+                room = own.room(min(2 * told.count, self.n))
+                told = library.spt_graph_route(byref(own.place), source, target, *room.slice)
+            return told, room.vertices[: told.count].tolist()
+
+    def routes(self, source: int, targets: memoryview) -> Tuple[Answer, FoundRoutes]:
+        """Finds one or more targets of a source, and returns their routes, by one search unless these are very long."""
+        distances, ends = zeros("Q", len(targets)), zeros("Q", len(targets))
+        given = tuple(_slices(targets, distances, ends))
+        with self._shared() as (own, status):
+            if status != OK:
+                return Answer(status), FoundRoutes(distances, ends, zeros("I", 0))
+            room = own.room(min(self._usual + 2 * len(targets) * isqrt(self.n), _MOST_KEPT))
+            told: Answer = library.spt_graph_routes(byref(own.place), source, *given, *room.slice)
+            if ends[-1] > len(room.vertices):
+                room = own.room(max(ends[-1], min(2 * ends[-1], _MOST_KEPT)))
+                told = library.spt_graph_routes(byref(own.place), source, *given, *room.slice)
+            return told, FoundRoutes(distances, ends, in_bytes(room.vertices[: ends[-1]].tobytes(), "I"))
 
     def within(self, source: int, limit: int, delta: int, distances: memoryview, predecessors: memoryview) -> Answer:
         """Writes the part of a tree within a limit."""

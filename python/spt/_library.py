@@ -39,6 +39,12 @@ class Found(ctypes.Structure):
     _fields_ = [("status", c_uint32), ("pred", c_uint32), ("dist", c_uint64), ("index", c_uint64)]
 
 
+class FoundRoute(ctypes.Structure):
+    """spt_route"""
+
+    _fields_ = [("status", c_uint32), ("vertex", c_uint32), ("dist", c_uint64), ("index", c_uint64), ("count", c_uint64)]
+
+
 class Part(ctypes.Structure):
     """spt_part"""
 
@@ -93,7 +99,7 @@ _FUNCTIONS = {
     "spt_check": ([*_SLICE, c_uint32, c_uint32, *_SLICE, *_SLICE], Answer),
     "spt_gr": ([*_SLICE, *_SLICE], Text),
 }
-# functions that a library older than 1.4 may lack
+# functions that a library older than 1.6 may lack
 _LATER = {
     "spt_graph_pair": ([POINTER(Place), c_uint32, c_uint32, c_uint64], Found),
     "spt_graph_within": ([POINTER(Place), c_uint32, c_uint64, c_uint64, *_SLICE, *_SLICE], Answer),
@@ -104,6 +110,8 @@ _LATER = {
     "spt_graph_both_ways": ([POINTER(Place), POINTER(Place)], Answer),
     "spt_graph_load": ([POINTER(Place), *_SLICE], Packed),
     "spt_graph_save": ([POINTER(Place), *_SLICE], Saved),
+    "spt_graph_route": ([POINTER(Place), c_uint32, c_uint32, *_SLICE], FoundRoute),
+    "spt_graph_routes": ([POINTER(Place), c_uint32, *_SLICE, *_SLICE, *_SLICE, *_SLICE], Answer),
 }
 
 
@@ -135,6 +143,7 @@ HAS_PAIR = hasattr(library, "spt_graph_pair")
 HAS_NEAR = hasattr(library, "spt_graph_nearest")
 HAS_PART = hasattr(library, "spt_graph_part")
 HAS_PACKED = hasattr(library, "spt_graph_load")
+HAS_ROUTES = hasattr(library, "spt_graph_route") and hasattr(library, "spt_graph_routes")
 # what the library takes as no limit
 NO_LIMIT = 2**64 - 1
 

@@ -5,7 +5,7 @@ from __future__ import annotations
 import math
 import operator
 
-from typing import Any, Iterable, Optional, Tuple
+from typing import Any, Iterable, Optional, Sequence, Tuple
 
 from ._faults import BadLimit, NoSuchVertex
 from ._library import reach
@@ -52,6 +52,11 @@ class Terms:
     def name(self, number: int) -> Any:
         """Returns the name of a vertex, or its number if there are no names; for 0, which is no vertex, None if there are names."""
         return number if self._names is None else self._names.name(number)
+
+    def names_of(self, numbers: Sequence[int]) -> Tuple[Any, ...]:
+        """Returns the names of vertices, or their numbers if there are no names."""
+        listed = self.names
+        return tuple(numbers) if listed is None else tuple([listed[number - 1] for number in numbers])
 
     def limit(self, within: Any) -> Optional[int]:
         """Returns the greatest distance, as a number of the library, that is not above the given one."""

@@ -19,6 +19,8 @@ if TYPE_CHECKING:
 
     from numpy.typing import NDArray
 
+    from ._given import Steps
+
 UNREACHED = 2**64 - 1
 """The distance of an unreachable vertex.
 
@@ -92,15 +94,79 @@ class Part(NamedTuple):
     predecessors: memoryview
 
 
-class Route(NamedTuple):
-    """A shortest path: its vertices in the order of travel, its distance as a whole number of units, and its length.
-
-    `length` is the distance in the unit of the graph's lengths, if it has one.
-    """
-
+class _Route(NamedTuple):
     vertices: Tuple[Any, ...]
     distance: int
     length: float
+
+
+class Route(_Route):
+    """A shortest path: its vertices in the order of travel, its distance as a whole number of units, and its length.
+
+    `length` is the distance in the unit of the graph's lengths; without a `unit`, the distance. `arcs` are the arcs that it takes. A
+    route is a tuple of the other three, so routes with the same vertices and lengths are equal.
+
+    >>> import spt
+    >>> roads = {"u": ["Depot", "Depot", "Mill"], "v": ["Mill", "Mill", "Quay"], "km": [3, 2.5, 4]}
+    >>> route = spt.Graph.from_frame(roads, "u", "v", "km", unit=0.5).route("Depot", "Quay")
+    >>> route, route.arcs
+    (Route(vertices=('Depot', 'Mill', 'Quay'), distance=13, length=6.5), [1, 2])
+    """
+
+    # how to find its arcs, and these once they are found
+    _steps: Optional[Steps] = None
+    _arcs: Optional[Tuple[int, ...]] = None
+
+    @property
+    def arcs(self) -> list[int]:
+        """For each step of the route the index, from 0, of the arc that it takes, in the order in which the arcs were given.
+
+        In a graph of a frame they are its rows, so `edges.iloc[route.arcs]` are the streets of the route. Of parallel arcs the route
+        takes the shortest, as rounded to the graph's `unit`, and of these the first. An arc that leads both ways (`both_ways`) has the
+        same index in either direction. They are in the order of travel, also with `towards` and in a graph `turned`.
+
+        A packed file has its arcs in the order of `Graph.load(file).arcs`, whatever their order was in the graph that was saved. In a
+        directed graph of NetworkX the index is that in `list(graph.edges)`, and in an undirected one, where an edge is two arcs, that
+        in `list(graph.to_directed().edges)`. If a function gives the lengths, edges that it leaves out don't count, and all edges from
+        one node of a multigraph to another are one arc.
+
+        The first call for any route of a graph makes an index of the arcs, 12 bytes for each, which all its routes share. A pickled
+        route has its arcs with it, so pickling finds them. AttributeError: no graph found this route, so its arcs aren't known.
+        """
+        return list(self._found())
+
+    def _found(self) -> Tuple[int, ...]:
+        if self._arcs is None:
+            if self._steps is None:
+                raise AttributeError("the arcs of a route are known only if a graph found it")
+            self._arcs = tuple(self._steps.arcs(self.vertices))
+        return self._arcs
+
+    def _step_lengths(self) -> list[int]:
+        """Returns the length of each step, as a number of units."""
+        return [] if self._steps is None else self._steps.lengths(self._found())
+
+    def __reduce__(self) -> tuple[Any, ...]:
+        return _route_again, (type(self), tuple(self), None if self._steps is None else self._found())
+
+    def __copy__(self) -> Route:
+        return self
+
+    def __deepcopy__(self, memo: Any) -> Route:
+        return self
+
+
+def route_of(vertices: Tuple[Any, ...], distance: int, terms: Terms, steps: Steps) -> Route:
+    """Returns the route with these vertices, whose arcs can be found."""
+    route = Route(vertices, distance, terms.told(distance))
+    route._steps = steps
+    return route
+
+
+def _route_again(kind: type[Route], values: Tuple[Any, ...], arcs: Optional[Tuple[int, ...]]) -> Route:
+    route = kind(*values)
+    route._arcs = arcs
+    return route
 
 
 def _reached(distances: memoryview, predecessors: memoryview) -> Part:

@@ -10,9 +10,9 @@ static void versions(void) {
     snprintf(wanted, sizeof wanted, "%d.%d.%d", SPT_VERSION_MAJOR, SPT_VERSION_MINOR, SPT_VERSION_PATCH);
     count("the parts of the version", !strcmp(wanted, SPT_VERSION));
     int parts = SPT_VERSION_MAJOR * 10000 + SPT_VERSION_MINOR * 100 + SPT_VERSION_PATCH;
-    count("the number of the version", SPT_VERSION_NUMBER == parts && SPT_VERSION_NUMBER >= 10500);
+    count("the number of the version", SPT_VERSION_NUMBER == parts && SPT_VERSION_NUMBER >= 10600);
     count("the library is of this header", spt_version() == SPT_VERSION_NUMBER);
-#if SPT_VERSION_NUMBER < 10400
+#if SPT_VERSION_NUMBER < 10600
     count("the preprocessor reads it", 0);
 #endif
 }
@@ -65,6 +65,12 @@ static void nulls(void) {
     count("no places for the nearest", nearest.status == SPT_BAD_SIZE);
     trees = spt_graph_matrix(&graph, NULL, 0, NULL, 0, 0, NULL, 0);
     count("a matrix of nothing", trees.status == SPT_OK && trees.done == 0);
+    spt_route route = spt_graph_route(&graph, 1, 1, NULL, 0);
+    count("no room for a route", route.status == SPT_OK && route.dist == 0 && route.count == 1);
+    spt_answer routes = spt_graph_routes(&graph, 1, NULL, 0, NULL, 0, NULL, 0, NULL, 0);
+    count("routes to nothing", routes.status == SPT_OK);
+    routes = spt_graph_routes(&graph, 1, &one, 1, NULL, 0, NULL, 0, NULL, 0);
+    count("no places for routes", routes.status == SPT_BAD_SIZE);
     spt_graph_free(&graph);
 
     spt_text text = spt_gr(NULL, 0, NULL, 0);

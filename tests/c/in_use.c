@@ -27,14 +27,14 @@ static int is_between, between, wrong;
 
 /* A place with a graph of its own, and lists, which calls in between must leave as they are. */
 static spt_graph other;
-static uint64_t dist[N];
+static uint64_t dist[N], ends[N];
 static uint32_t pred[N], third[N];
 static uint8_t bytes[PACKED];
 
 /* What the place, the other place and the lists hold. */
 typedef struct seen {
     spt_graph used, other;
-    uint64_t dist[N];
+    uint64_t dist[N], ends[N];
     uint32_t pred[N], third[N];
     uint8_t bytes[PACKED];
 } seen;
@@ -45,6 +45,7 @@ static seen look(void) {
     now.used = *used;
     now.other = other;
     memcpy(now.dist, dist, sizeof dist);
+    memcpy(now.ends, ends, sizeof ends);
     memcpy(now.pred, pred, sizeof pred);
     memcpy(now.third, third, sizeof third);
     memcpy(now.bytes, bytes, sizeof bytes);
@@ -71,6 +72,8 @@ static void call_each(void) {
     refused(spt_graph_part(place, 1, 3, third, N, dist, N, pred, N).status, &before);
     refused(spt_graph_nearest(place, &one, 1, SPT_NO_LIMIT, 0, dist, N, pred, N, third, N).status, &before);
     refused(spt_graph_matrix(place, &one, 1, &one, 1, 0, dist, N).status, &before);
+    refused(spt_graph_route(place, 1, 4, third, N).status, &before);
+    refused(spt_graph_routes(place, 1, &one, 1, dist, N, ends, N, third, N).status, &before);
     refused(spt_graph_counts(place).status, &before);
     refused(spt_graph_turned(place, &other).status, &before);
     refused(spt_graph_turned(&other, place).status, &before);
@@ -115,6 +118,7 @@ static spt_graph begin(void) {
     spt_graph place = {0};
     count("new", spt_graph_new(diamond, M, N, &place).status == SPT_OK && spt_graph_share(&place, &other).status == SPT_OK);
     memset(dist, 7, sizeof dist);
+    memset(ends, 7, sizeof ends);
     memset(pred, 7, sizeof pred);
     memset(third, 7, sizeof third);
     memset(bytes, 7, sizeof bytes);
@@ -132,7 +136,7 @@ static void end(const char *name, spt_graph *place, uint64_t arcs) {
 }
 
 /* The call must not write the lists of the calls in between, so each has its own. */
-static uint64_t own_dist[N];
+static uint64_t own_dist[N], own_ends[N];
 static uint32_t own_pred[N], own_third[N];
 static uint8_t own_bytes[PACKED];
 
@@ -173,6 +177,18 @@ static void queries(void) {
     used = NULL;
     count("matrix", matrix.status == SPT_OK && matrix.done == 1 && own_dist[0] == 0);
     end("matrix", &place, M);
+    place = begin();
+    used = &place;
+    spt_route route = spt_graph_route(&place, 1, 4, own_third, N);
+    used = NULL;
+    count("route", route.status == SPT_OK && route.dist == 5 && route.count == 3 && own_third[1] == 2);
+    end("route", &place, M);
+    place = begin();
+    used = &place;
+    spt_answer routes = spt_graph_routes(&place, 1, &one, 1, own_dist, N, own_ends, N, own_third, N);
+    used = NULL;
+    count("routes", routes.status == SPT_OK && own_dist[0] == 0 && own_ends[0] == 1 && own_third[0] == 1);
+    end("routes", &place, M);
     place = begin();
     used = &place;
     spt_saved saved = spt_graph_save(&place, own_bytes, PACKED);

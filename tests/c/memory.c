@@ -204,6 +204,33 @@ static uint32_t a_matrix(int *right) {
     return told.status;
 }
 
+/* From sources[1]: no route, one to itself, and the one to the farthest vertex, whose vertices these are. */
+static uint32_t targets[K], right_route[N];
+static size_t right_count;
+
+static uint32_t a_route(int *right) {
+    spt_graph place = own();
+    spt_route told = spt_graph_route(&place, sources[1], targets[2], pred, N);
+    told.status = freed(&place, told.status);
+    size_t held = told.status == SPT_OK ? right_count : 0;
+    *right = told.count == held && told.dist == (held ? right_dist[N + targets[2] - 1] : 0)
+        && !memcmp(pred, right_route, held * sizeof *pred) && !memcmp(pred + held, no_pred + held, (N - held) * sizeof *pred);
+    return told.status;
+}
+
+static uint32_t several_routes(int *right) {
+    const uint64_t wanted[2 * K] = {SPT_UNREACHED, 0, right_dist[N + targets[2] - 1], 0, 1, 1 + right_count};
+    memcpy(block, no_dist, sizeof block);
+    spt_graph place = own();
+    spt_answer told = spt_graph_routes(&place, sources[1], targets, K, block, K, block + K, K, pred, K * N);
+    told.status = freed(&place, told.status);
+    size_t held = told.status == SPT_OK ? 1 + right_count : 0, put = held ? sizeof wanted : 0;
+    int same = !held || (pred[0] == sources[1] && !memcmp(pred + 1, right_route, right_count * sizeof *pred));
+    *right = same && !memcmp(pred + held, no_pred + held, (K * N - held) * sizeof *pred)
+        && !memcmp(block, wanted, put) && !memcmp((char *)block + put, (char *)no_dist + put, sizeof block - put);
+    return told.status;
+}
+
 static uint8_t packed[4 * (N + 2 * M + 9)], room[sizeof packed];
 
 static uint32_t a_packed_graph(int *right) {
@@ -248,6 +275,13 @@ static void near_calls(void) {
     count("the nearest with ample memory", right);
     for (size_t k = 0; k < K; k++)
         for (size_t t = 0; t < K; t++) right_block[k * K + t] = right_dist[k * N + sources[t] - 1];
+    targets[0] = sources[0], targets[1] = targets[2] = sources[1];
+    for (uint32_t v = 1; v <= N; v++)
+        if (right_dist[N + v - 1] != SPT_UNREACHED && right_dist[N + v - 1] > right_dist[N + targets[2] - 1]) targets[2] = v;
+    for (uint32_t v = targets[2]; v; v = right_pred[N + v - 1]) right_count++;
+    size_t at = right_count;
+    for (uint32_t v = targets[2]; v; v = right_pred[N + v - 1]) right_route[--at] = v;
+    count("a long route, and none", right_count > 100 && right_route[0] == sources[1] && right_dist[N + targets[0] - 1] == SPT_UNREACHED);
 }
 
 /* Fans in a chain: each bucket has the FAN heads of one vertex, and a run that goes on to the last of them takes many blocks. A target that lies
@@ -315,6 +349,8 @@ int main(void) {
     refuse_each("spt_graph_part", a_list);
     refuse_each("spt_graph_nearest", a_forest);
     refuse_each("spt_graph_matrix", a_matrix);
+    refuse_each("spt_graph_route", a_route);
+    refuse_each("spt_graph_routes", several_routes);
     spt_saved saved = spt_graph_save(&kept, packed, sizeof packed);
     count("packed with ample memory", saved.status == SPT_OK && saved.count == sizeof packed);
     refuse_each("spt_graph_save", a_packed_graph);

@@ -350,6 +350,6 @@ def cases():
     made = [Case(name, line, REPLAY, 1, text + HELP + more, is_whole=True) for name, line, text, more in TOLD]
     made += [Case("refused words", line, REPLAY, 1, None) for line in REFUSED]
     made += [Case("files in order", line, FILES, status, fault) for line, status, fault in FILES_IN_ORDER]
-    made += [Case(f"version by {word}", word, {}, 0, "spt 1.5.0\n") for word in ("--version", "-V")]
+    made += [Case(f"version by {word}", word, {}, 0, "spt 1.6.0\n") for word in ("--version", "-V")]
     made += [Case("output to standard output", "check alone.gr none.tree -o -", {"alone.gr": ALONE, "none.tree": "p spt 1 1\ne 0\n"}, 3, "no 1 2\n")]
     return made

@@ -6,6 +6,7 @@ import importlib
 import os
 import random
 
+
 HOME = os.path.dirname(os.path.dirname(os.path.dirname(os.path.realpath(__file__))))
 DIAMOND = [(1, 2, 3), (1, 3, 3), (2, 4, 2), (3, 4, 2), (1, 4, 6)]
 LONGEST = 2**32 - 1

@@ -184,9 +184,9 @@ class Trees(unittest.TestCase):
             self.assertEqual(self.graph.pair(1, 4), spt.Pair(5, 2))
 
     def test_paths_are_the_trees(self):
-        # (an older library has no parts of trees, and an even older one no pairs)
-        for lacks in ({"HAS_NEAR": True}, {"HAS_NEAR": False}, {"HAS_NEAR": False, "HAS_PAIR": False}):
-            with mock.patch.multiple(spt._graph, **lacks):
+        # (an older library has no routes, one before it no parts of trees, and an even older one no pairs)
+        for lacks in ({}, {"HAS_ROUTES": False}, {"HAS_NEAR": False}, {"HAS_NEAR": False, "HAS_PAIR": False}):
+            with mock.patch.multiple(spt._graph, HAS_ROUTES=not lacks, **{it: False for it in lacks if it != "HAS_ROUTES"}):
                 for seed, longest in ((4, 1000), (5, 2), (6, samples.LONGEST)):
                     graph = spt.Graph(120, samples.by_lot(120, 300, seed, longest))
                     tree = graph.tree(60)
@@ -208,6 +208,9 @@ class Trees(unittest.TestCase):
         limits, whole = [], spt.Graph._tree
         with mock.patch.object(spt.Graph, "_tree", lambda graph, source, limit=None: limits.append(limit) or whole(graph, source, limit)):
             self.assertEqual(self.graph.path(1, 4), [1, 2, 4])
+            self.assertEqual(limits, [])
+            with mock.patch.object(spt._graph, "HAS_ROUTES", False):
+                self.assertEqual(self.graph.path(1, 4), [1, 2, 4])
         self.assertEqual(limits, [5])
 
     def test_only_read(self):

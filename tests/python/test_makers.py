@@ -395,8 +395,8 @@ class Workers(Case):
                 self.assertEqual(spt._share.workers_of("all"), threads)
                 asked = []
                 with mock.patch.object(spt._graph, "in_order", lambda total, workers, *more: asked.append(workers) or iter(())):
-                    list(graph.trees([1, 2], workers="all")), graph.matrix([1], [1], workers="all")
-                self.assertEqual(asked, [threads, threads])
+                    list(graph.trees([1, 2], workers="all")), graph.matrix([1], [1], workers="all"), graph.routes([], workers="all")
+                self.assertEqual(asked, [threads, threads, threads])
                 self.assertEqual(list(graph.trees([1, 2, 3, 4], workers="all")), trees)
                 self.assertEqual(graph.matrix([1, 2], [4, 1], workers="all").tolist(), matrix)
         self.assertGreaterEqual(spt._share._processors(), 1)
@@ -409,7 +409,7 @@ class Workers(Case):
 
     def test_refused(self):
         graph = spt.Graph(4, samples.DIAMOND)
-        calls = [lambda it: graph.trees([1], workers=it), lambda it: graph.matrix([1], [2], workers=it)]
+        calls = [lambda it: graph.trees([1], workers=it), lambda it: graph.matrix([1], [2], workers=it), lambda it: graph.routes([(1, 2)], workers=it)]
         for call in calls + ([lambda it: spt.dijkstra(graph, workers=it)] if scipy is not None else []):
             for wrong in (0, -2):
                 self.refused(ValueError, f"{wrong} workers: at least 1 is needed", lambda: call(wrong))

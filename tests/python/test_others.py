@@ -338,13 +338,12 @@ class NetworkX(unittest.TestCase):
             spt.Graph.from_networkx(networkx.path_graph(3))
 
     def test_forms_of_the_docs(self):
-        # each function of docs/PYTHON.md, for the kinds of graphs in its comment
-        page = samples.read("docs/PYTHON.md")
-        forms = re.findall(r"^ {4}(lambda tail, head, data: .*?) +# (.*)$", page, re.M)
-        self.assertEqual([kinds for _, kinds in forms], ["Graph, DiGraph", "MultiGraph, MultiDiGraph"])
-        for form, kinds in forms:
-            self.assertIn(form, " ".join(spt.Graph.from_networkx.__doc__.split()))
-            for kind in kinds.split(", "):
+        # each function of the docstring that the page names, for graphs and then for multigraphs
+        self.assertIn("`help(spt.Graph.from_networkx)` has a function that reads it as 1", samples.read("docs/PYTHON.md"))
+        forms = re.findall("`(lambda tail, head, data: [^`]*)`", " ".join(spt.Graph.from_networkx.__doc__.split()))
+        self.assertEqual(len(forms), 2)
+        for form, kinds in zip(forms, (["Graph", "DiGraph"], ["MultiGraph", "MultiDiGraph"])):
+            for kind in kinds:
                 theirs = getattr(networkx, kind)()
                 theirs.add_weighted_edges_from([("a", "b", 9), ("b", "c", 5), ("a", "c", 15)])
                 theirs.add_edge("c", "d")

@@ -23,6 +23,7 @@ from spt._share import Pace, in_order
 
 # what would take some 20 seconds of a processor, and says when it is under way, what it raised, and when
 LONG = """
+import itertools
 import time
 import samples, spt
 
@@ -44,6 +45,8 @@ CALLS = {
     "a matrix by two": "graph.matrix(sources, sources[::9], workers=2, progress=progress)",
     "trees": "sum(tree.source for tree in graph.trees(sources, workers=2, progress=progress))",
     "parts of trees": "sum(tree.source for tree in graph.trees(sources, within=10**6, progress=progress))",
+    "routes": "graph.routes(itertools.product(sources, sources[:2]), progress=progress)",
+    "routes by two threads": "graph.routes(zip(sources, sources[::-1]), 2, progress=progress)",
 }
 # what the library writes into a place while a call uses it
 IN_USE_STATE = 2
@@ -164,6 +167,8 @@ class OneGraph(unittest.TestCase):
         lambda graph: graph.pair(1, 77),
         lambda graph: list(graph.trees([3, 4, 5], workers=2)),
         lambda graph: graph.matrix([1, 2, 3], [9, 8], workers=2).tolist(),
+        lambda graph: [route and route.arcs for route in graph.routes([(1, 77), (1, 500), (9, 1)], workers=2)],
+        lambda graph: graph.path(5, 77),
         lambda graph: graph.nearest([1, 500]),
         lambda graph: bytes(graph.arcs),
         lambda graph: (graph.n, graph.m),

@@ -218,6 +218,64 @@ Quay,Quay,0,Quay,0.00
 """
         self.of(wanted, "routes", "--pairs", "trips.csv", "--towards")
 
+    def test_streets(self):
+        self.put("trips.csv", "from,to\nDepot,Church\nChurch,Depot\nMill,Mill\nDepot,Church\n")
+        wanted = """pair,step,from,to,row,length
+1,1,Depot,Mill,2,2.50
+1,2,Mill,Quay,3,4.00
+1,3,Quay,Church,6,1.75
+2,,,,,
+4,1,Depot,Mill,2,2.50
+4,2,Mill,Quay,3,4.00
+4,3,Quay,Church,6,1.75
+"""
+        self.of(wanted, "routes", "--pairs", "trips.csv", "--streets")
+        self.of(wanted, "routes", "--pairs", "trips.csv", "--streets", "--workers", "2")
+        self.put("trips.csv", "from,to\nChurch,Depot\n")
+        wanted = """pair,step,from,to,row,length
+1,1,Church,Quay,6,1.75
+1,2,Quay,Mill,3,4.00
+1,3,Mill,Depot,2,2.50
+"""
+        self.of(wanted, "routes", "--pairs", "trips.csv", "--streets", "--both-ways")
+        wanted = "pair,step,from,to,row,length\n1,1,Church,Quay,6,1.75\n1,2,Quay,Depot,5,7.25\n"
+        self.of(wanted, "routes", "--pairs", "trips.csv", "--streets", "--both-ways", "two-way")
+        # of parallel roads the shortest, then the first; blank rows count, too
+        roads = "name,u,v,minutes\nlong,A,B,2\n\nfirst,A,B,1.5\nsecond,A,B,1.5\n\"B, C\",B,C,1\n"
+        self.put("named.csv", roads)
+        self.put("trips.csv", "to,from\nC,A\nA,C\n")
+        wanted = 'pair,step,from,to,row,length,name,u\n1,1,A,B,4,1.50,first,A\n1,2,B,C,6,1.00,"B, C",B\n2,,,,,,,\n'
+        words = ["routes", "named.csv", *FORM, "--pairs", "trips.csv", "--towards"]
+        self.gives(wanted, *words, "--column", "name", "--column", "u")
+        self.gives(wanted, *words, "--streets", "--column", "name", "--column", "u")
+        self.refused("named.csv: no column 'km': the columns are name, u, v, minutes", *words, "--column", "km")
+        for title in ("length", "name"):
+            told = f"--column {title}: the answer has a column of this title already"
+            self.refused(told, *words, "--column", "name", "--column", title, status=1)
+
+    def test_streets_of_graphs(self):
+        self.put("pairs.csv", "from,to\n1,4\n4,1\n")
+        path = f"{samples.HOME}/examples/diamond.gr"
+        arcs = [line.split()[1:] for line in samples.read("examples/diamond.gr").splitlines() if line.startswith("a")]
+        first, second = arcs.index(["1", "2", "3"]) + 1, arcs.index(["2", "4", "2"]) + 1
+        wanted = f"pair,step,from,to,row,length\n1,1,1,2,{first},3\n1,2,2,4,{second},2\n2,,,,,\n"
+        self.gives(wanted, "routes", path, "--pairs", "pairs.csv", "--streets")
+        self.refused(f"{path}: --column is for tables: this is the file of a graph", "routes", path, "--pairs", "pairs.csv", "--column", "x", status=1)
+
+    def test_progress(self):
+        self.put("trips.csv", "from,to\nDepot,Church\nDepot,Mill\nMill,Mill\n")
+        for words, count in ((["routes"], "3 of 3 pairs"), (["pairs", "--paths"], "3 of 3 pairs"), (["pairs"], "2 of 2 sources")):
+            status, _, told = self.call(words[0], "roads.csv", *FORM, "--pairs", "trips.csv", "--progress", *words[1:])
+            self.assertEqual((status, told), (0, f"spt: {count}, 0 s, 0 s left\n"))
+
+    def test_routes_of_an_older_library(self):
+        self.put("trips.csv", "from,to\nDepot,Church\n")
+        with mock.patch.object(spt._graph, "HAS_ROUTES", False):
+            told = "the library is older than 1.6: it has no spt_graph_route or spt_graph_routes"
+            for words in (["routes"], ["pairs", "--paths"]):
+                self.refused(told, words[0], "roads.csv", *FORM, "--pairs", "trips.csv", *words[1:])
+            self.of("source,target,distance,predecessor\nDepot,Church,8.25,Quay\n", "pairs", "--pairs", "trips.csv")
+
     def test_many_pairs_of_a_source(self):
         self.put("trips.csv", 'from,to\nMill,Depot\nMill,Quay\nMill,Church\nMill,"Inn, Old"\nMill,Mill\n')
         wanted = """source,target,distance,predecessor,path
@@ -284,6 +342,17 @@ Quay,10.52,49.51
         told = {"to": "Church", "from": "Depot", "distance": 8.25}
         self.assertEqual(self.features("pairs", "--pairs", "trips.csv", "--towards"), [({**told, "next": "Mill"}, "LineString", far)])
         self.assertEqual(self.features("routes", "--pairs", "trips.csv", "--towards"), [(told, "LineString", path)])
+
+    def test_streets(self):
+        self.put("trips.csv", "from,to\nQuay,Church\nChurch,Depot\nMill,Mill\nDepot,Mill\n")
+        quay, mill = [[10.52, 49.51], [10.53, 49.52]], [[10.5, 49.5], [10.51, 49.5]]
+        none = dict.fromkeys(("step", "from", "to", "row", "length", "two-way"))
+        wanted = [
+            ({"pair": 1, "step": 1, "from": "Quay", "to": "Church", "row": 6, "length": 1.75, "two-way": "1"}, "LineString", quay),
+            ({"pair": 2, **none}, None, None),
+            ({"pair": 4, "step": 1, "from": "Depot", "to": "Mill", "row": 2, "length": 2.5, "two-way": "yes"}, "LineString", mill),
+        ]
+        self.assertEqual(self.features("routes", "--pairs", "trips.csv", "--streets", "--column", "two-way"), wanted)
 
     def test_graphs(self):
         spt.Graph(2, [(1, 2, 7)]).save(f"{self.folder}/two.packed")

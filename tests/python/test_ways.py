@@ -110,7 +110,7 @@ class Turned(unittest.TestCase):
     def test_made_once(self):
         library = spt._library.library
         made = mock.Mock(wraps=library.spt_graph_turned)
-        names = ("share", "free", "trees", "new", "pair", "part", "nearest", "matrix", "save")
+        names = ("share", "free", "trees", "new", "pair", "part", "nearest", "matrix", "save", "route", "routes")
         calls = {f"spt_graph_{name}": getattr(library, f"spt_graph_{name}") for name in names}
         with mock.patch.object(spt._kept, "library", types.SimpleNamespace(**calls, spt_graph_turned=made)):
             graph = spt.Graph(4, EXAMPLE)
@@ -121,6 +121,7 @@ class Turned(unittest.TestCase):
             graph.nearest([4], towards=True)
             graph.matrix([4], [1], towards=True)
             graph.pair(4, 1, towards=True)
+            graph.routes([(4, 1), (4, 2), (3, 1)], towards=True)
             graph.turned().path(4, 1)
             twin.turned()
             self.assertEqual(made.call_count, 1)
@@ -289,6 +290,7 @@ class Towards(unittest.TestCase):
             for call in (
                 lambda: graph.tree(1, towards=wrong), lambda: graph.trees([1], towards=wrong), lambda: graph.nearest([1], towards=wrong),
                 lambda: graph.matrix([1], [1], towards=wrong), lambda: graph.pair(1, 4, towards=wrong), lambda: graph.path(1, 4, towards=wrong),
+                lambda: graph.route(1, 4, towards=wrong), lambda: graph.routes([(1, 4)], towards=wrong),
             ):
                 with self.assertRaisesRegex(TypeError, r"^towards must be True or False, not"):
                     call()

@@ -2,13 +2,15 @@
 
 from __future__ import annotations
 
+import itertools
+
 from argparse import Namespace
 from typing import Any, Dict, Iterator, List, NamedTuple, Optional, Sequence, Tuple
 
 from .._faults import TooFar
 from .._graph import Graph
 from .._share import Pace, Progress, in_order
-from .._trees import BEYOND, Tree
+from .._trees import BEYOND, Pair, Route
 from ._lists import pairs_of, vertices_of
 from ._roads import Roads
 
@@ -17,17 +19,16 @@ Row = Sequence[Any]
 _MANY = 4
 # between the names of a path
 ARROW = " > "
+# the titles of a table of streets
+STREETS = ("pair", "step", "from", "to", "row", "length")
 
 
 class Found(NamedTuple):
-    """The distance of a target, the vertex before it (towards a source, the next one), and the path if it is asked for.
-
-    The path has each vertex, in the order of travel, with its distance from the first one.
-    """
+    """The distance of a target, the vertex before it (towards a source, the next one), and the names along the path, if asked for."""
 
     distance: int
     before: Any
-    path: List[Tuple[Any, int]]
+    path: str = ""
 
 
 def tree(roads: Roads, asked: Namespace, progress: Progress) -> Iterator[Row]:
@@ -68,33 +69,59 @@ def matrix(roads: Roads, asked: Namespace, progress: Progress) -> Iterator[Row]:
 def pairs(roads: Roads, asked: Namespace, progress: Progress) -> Iterator[Row]:
     """Yields a row for each pair, with empty cells if there is no path."""
     listed = pairs_of(roads, asked.pairs)
-    found = _found(roads.graph, listed, asked, progress)
+    if asked.paths:
+        found = [route and _of_route(route, asked.towards) for route in _routes(roads, listed, asked, progress)]
+    else:
+        found = _found(roads.graph, listed, asked, progress)
     header = ("to", "from", "distance", "next") if asked.towards else ("source", "target", "distance", "predecessor")
     yield header + ("path",) * asked.paths
-    for pair in listed:
-        told = found[pair]
-        path = ARROW.join(str(vertex) for vertex, _ in told.path) if told else ""
-        cells = (roads.length(told.distance), told.before if told.distance else "") if told else ("", "")
-        yield (*pair, *cells) + (path,) * asked.paths
+    for pair, told in zip(listed, found):
+        cells = (roads.length(told.distance), told.before if told.distance else "", told.path) if told else ("", "", "")
+        yield (*pair, *cells[: 2 + asked.paths])
 
 
 def routes(roads: Roads, asked: Namespace, progress: Progress) -> Iterator[Row]:
     """Yields a row for each vertex on the path of each pair; one with empty cells if there is no path."""
+    if asked.streets or asked.column:
+        yield from _streets(roads, asked, progress)
+        return
     listed = pairs_of(roads, asked.pairs)
-    found = _found(roads.graph, listed, asked, progress)
+    found = _routes(roads, listed, asked, progress)
     yield (*(("to", "from") if asked.towards else ("source", "target")), "step", "vertex", "distance")
-    for pair in listed:
-        told = found[pair]
-        if told is None:
+    for pair, route in zip(listed, found):
+        if route is None:
             yield (*pair, "", "", "")
-        for step, (vertex, distance) in enumerate(told.path if told else ()):
+            continue
+        distances = itertools.accumulate(route._step_lengths(), initial=0)
+        for step, (vertex, distance) in enumerate(zip(route.vertices, distances)):
             yield (*pair, step, vertex, roads.length(distance))
 
 
-def _found(
-    graph: Graph, listed: List[Tuple[Any, Any]], asked: Namespace, progress: Progress
-) -> Dict[Tuple[Any, Any], Optional[Found]]:
-    """Returns what is found for each pair."""
+def _streets(roads: Roads, asked: Namespace, progress: Progress) -> Iterator[Row]:
+    """Yields a row for each street on the path of each pair, in the order of travel; one with empty cells if there is no path."""
+    columns = roads.columns(asked.column, STREETS)
+    found = _routes(roads, pairs_of(roads, asked.pairs), asked, progress)
+    yield (*STREETS, *asked.column)
+    for number, route in enumerate(found, 1):
+        if route is None:
+            yield (number, *[""] * (len(STREETS) - 1 + len(columns)))
+            continue
+        ends, streets = zip(route.vertices, route.vertices[1:]), zip(route.arcs, route._step_lengths())
+        for step, (pair, (arc, length)) in enumerate(zip(ends, streets), 1):
+            yield (number, step, *pair, roads.row(arc), roads.length(length), *(cells[arc] for cells in columns))
+
+
+def _routes(roads: Roads, listed: List[Tuple[Any, Any]], asked: Namespace, progress: Progress) -> List[Optional[Route]]:
+    return roads.graph.routes(listed, asked.workers, towards=asked.towards, progress=progress)
+
+
+def _of_route(route: Route, towards: bool) -> Found:
+    before = route.vertices[1 if towards else -2] if route.distance else None
+    return Found(route.distance, before, ARROW.join(map(str, route.vertices)))
+
+
+def _found(graph: Graph, listed: List[Tuple[Any, Any]], asked: Namespace, progress: Progress) -> List[Optional[Found]]:
+    """Returns what is found for each pair, without paths."""
     targets: Dict[Any, List[Any]] = {}
     for source, target in dict.fromkeys(listed):
         targets.setdefault(source, []).append(target)
@@ -103,42 +130,20 @@ def _found(
 
     def call(at: int, end: int) -> None:
         for source in sources[at:end]:
-            told = _of_source(graph, source, targets[source], asked.towards, asked.paths)
-            found.update(zip(((source, target) for target in targets[source]), told))
+            told = _of_source(graph, source, targets[source], asked.towards)
+            found.update(((source, target), pair and Found(*pair)) for target, pair in zip(targets[source], told))
 
     for _ in in_order(len(sources), asked.workers, Pace(len(sources)), call, progress):
         pass
-    return found
+    return [found[pair] for pair in listed]
 
 
-def _of_source(graph: Graph, source: Any, targets: List[Any], towards: bool, paths: bool) -> List[Optional[Found]]:
+def _of_source(graph: Graph, source: Any, targets: List[Any], towards: bool) -> List[Optional[Pair]]:
     """Returns what is found for each of the targets of a source."""
     if len(targets) >= _MANY:
         try:
-            whole = graph.tree(source, towards=towards)
-            return [_of_tree(whole, target, paths) for target in targets]
+            return list(map(graph.tree(source, towards=towards).pair, targets))
         except TooFar:
             # the targets may still be near enough
             pass
-    return [_of_pair(graph, source, target, towards, paths) for target in targets]
-
-
-def _of_tree(tree: Tree, target: Any, paths: bool) -> Optional[Found]:
-    pair = tree.pair(target)
-    return pair and Found(*pair, _path(tree, target) if paths else [])
-
-
-def _path(tree: Tree, target: Any) -> List[Tuple[Any, int]]:
-    """Returns the vertices of a path, in the order of travel, each with its distance from the first one."""
-    vertices = tree.path(target) or []
-    distances = [pair.distance for pair in map(tree.pair, vertices) if pair]
-    return list(zip(vertices, [distances[0] - it for it in distances] if tree.towards else distances))
-
-
-def _of_pair(graph: Graph, source: Any, target: Any, towards: bool, paths: bool) -> Optional[Found]:
-    pair = graph.pair(source, target, towards=towards)
-    if pair is None or not paths:
-        return pair and Found(*pair, [])
-    # (the part of the tree that is within the distance of the target has its path)
-    part = graph.tree(source, within=pair.length, towards=towards)
-    return _of_tree(part, target, paths)
+    return [graph.pair(source, target, towards=towards) for target in targets]

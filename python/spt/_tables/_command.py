@@ -67,12 +67,13 @@ def _write(asked: Namespace) -> None:
     if asked.output is not None and any(_is_same(it, asked.output) for it in inputs if it is not None):
         raise Refused(f"{asked.output}: the output is an input", WRONG_LINE)
     roads = roads_of(asked)
-    rows = getattr(_answers, asked.command)(roads, asked, _reporter() if getattr(asked, "progress", False) else None)
+    of_what = "pairs" if getattr(asked, "paths", False) else "sources"
+    rows = getattr(_answers, asked.command)(roads, asked, _reporter(of_what) if getattr(asked, "progress", False) else None)
     # (errors in options and names come before the first row, and before a file is made)
     places, header = _map.places_of(roads, asked), next(rows)
     with _output(asked.output) as file:
         if places is not None:
-            return _map.write(file, asked.command, header, rows, places)
+            return _map.write(file, header, rows, places)
         table = csv.writer(file, lineterminator="\n")
         table.writerow(header)
         table.writerows(rows)
@@ -127,7 +128,7 @@ def _replaced(path: str) -> Iterator[TextIO]:
             os.remove(new)
 
 
-def _reporter() -> Progress:
+def _reporter(of_what: str) -> Progress:
     """Returns a function that reports progress on standard error, about once a second and at the end."""
     begin = monotonic()
     last = begin
@@ -138,6 +139,6 @@ def _reporter() -> Progress:
         if done == total or now - last >= _PAUSE:
             last = now
             left = (now - begin) / done * (total - done) if done else 0
-            print(f"spt: {done} of {total} sources, {now - begin:.0f} s, {left:.0f} s left", file=sys.stderr)
+            print(f"spt: {done} of {total} {of_what}, {now - begin:.0f} s, {left:.0f} s left", file=sys.stderr)
 
     return report

@@ -1,4 +1,4 @@
-"""Answers as GeoJSON, which QGIS and web maps draw: a point for each vertex, a line for each pair."""
+"""Answers as GeoJSON, which QGIS and web maps draw: a point for each vertex, a line for each pair or street."""
 
 from __future__ import annotations
 
@@ -18,6 +18,8 @@ Places = Dict[Any, List[float]]
 Feature = Dict[str, Any]
 # the titles of the coordinates' columns, unless they are named
 _TITLES = {"x": "x", "y": "y"}
+# the titles of columns of lengths
+_NUMBERS = ("distance", "length")
 # what the coordinates are, and the greatest
 _DEGREES = (("longitude", 180), ("latitude", 90))
 
@@ -54,9 +56,9 @@ def _degrees(table: Table, place: int, kind: str, most: int) -> List[float]:
     return found
 
 
-def write(file: TextIO, command: str, header: Sequence[str], rows: Iterable[Sequence[Any]], places: Places) -> None:
+def write(file: TextIO, header: Sequence[str], rows: Iterable[Sequence[Any]], places: Places) -> None:
     """Writes the rows of an answer as the features of a map, a line of the file for each."""
-    features = _routes(header, rows, places) if command == "routes" else _features(header, rows, places)
+    features = _routes(header, rows, places) if tuple(header[2:4]) == ("step", "vertex") else _features(header, rows, places)
     front = '{"type": "FeatureCollection", "features": [\n'
     for feature in features:
         file.write(f"{front}{json.dumps(feature, ensure_ascii=False)}")
@@ -65,15 +67,16 @@ def write(file: TextIO, command: str, header: Sequence[str], rows: Iterable[Sequ
 
 
 def _features(header: Sequence[str], rows: Iterable[Sequence[Any]], places: Places) -> Iterator[Feature]:
-    """Yields a point for each row about a vertex, or a straight line for each pair that has a path."""
-    at = header.index("vertex") if "vertex" in header else None
+    """Yields a point for each row about a vertex, or a straight line for each street, or pair that has a path."""
+    at = header.index("vertex") if "vertex" in header[:2] else None
+    first, last = {"pair": (2, 3), "to": (1, 0)}.get(header[0], (0, 1))
     for row in rows:
         if at is not None:
             yield _feature(header, row, [places[row[at]]])
             continue
-        begin, end = reversed(row[:2]) if header[0] == "to" else row[:2]
+        begin, end = row[first], row[last]
         ends = [begin] if begin == end else [begin, end]
-        yield _feature(header, row, [places[it] for it in ends] if row[2] else [])
+        yield _feature(header, row, [places[it] for it in ends] if row[2] != "" else [])
 
 
 def _routes(header: Sequence[str], rows: Iterable[Sequence[Any]], places: Places) -> Iterator[Feature]:
@@ -96,7 +99,7 @@ def _feature(titles: Sequence[str], cells: Sequence[Any], line: List[List[float]
     is_point, where = len(line) == 1, None  # type: bool, Optional[Feature]
     if line:
         where = {"type": "Point" if is_point else "LineString", "coordinates": line[0] if is_point else line}
-    told = {title: _number(cell) if title == "distance" else cell for title, cell in zip(titles, cells)}
+    told = {title: _number(cell) if title in _NUMBERS else cell for title, cell in zip(titles, cells)}
     return {"type": "Feature", "properties": {it: None if cell == "" else cell for it, cell in told.items()}, "geometry": where}
 
 

@@ -40,7 +40,7 @@ def parser() -> ArgumentParser:
         ("nearest", "Write the nearest source of each vertex"),
         ("matrix", "Write the distance from each source to each target"),
         ("pairs", "Write the distance for each pair of source and target"),
-        ("routes", "Write each vertex on the path of each pair of source and target"),
+        ("routes", "Write each vertex, or each street, on the path of each pair of source and target"),
     ):
         command = commands.add_parser(name, help=about, description=f"{about}.", epilog=_LISTS, **form)
         _add_roads(command)
@@ -74,6 +74,11 @@ def _add_vertices(command: ArgumentParser, name: str) -> None:
         if name == "pairs":
             about = f"Add a column with the names along the path, as in A{ARROW}B"
             command.add_argument("--paths", action="store_true", help=about)
+        else:
+            about = "Write each street on the path instead: the number of the pair, its ends, its row in ROADS and its length"
+            command.add_argument("--streets", action="store_true", help=about)
+            about = "Write streets, with this column of ROADS; can be repeated"
+            command.add_argument("--column", metavar="COLUMN", action="append", default=[], help=about)
         return
     command.add_argument("--source", metavar="NAME", action="append", default=[], help="A source; can be repeated")
     command.add_argument("--sources", metavar="FILE", help="The sources: a CSV file of names, in its first column")

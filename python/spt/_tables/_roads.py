@@ -7,7 +7,7 @@ import math
 
 from argparse import Namespace
 from decimal import Decimal
-from typing import Any, Dict, List, Optional, Union
+from typing import Any, Dict, List, Optional, Sequence, Union
 
 from .._faults import BadArc
 from .._graph import Graph
@@ -23,8 +23,8 @@ _FLAGS = {"1": True, "true": True, "yes": True, "0": False, "false": False, "no"
 class Roads:
     """A graph, and how its vertices and lengths are written."""
 
-    def __init__(self, path: str, graph: Graph, scale: Optional[Decimal], among: str) -> None:
-        self.path, self.graph, self._scale, self._among = path, graph, scale, among
+    def __init__(self, path: str, graph: Graph, scale: Optional[Decimal], among: str, table: Optional[Table] = None) -> None:
+        self.path, self.graph, self._scale, self._among, self._table = path, graph, scale, among, table
         self._names = names = graph.names
         self._by_text: Optional[Dict[str, Any]] = None if names is None else dict(zip(map(str, names), names))
 
@@ -42,6 +42,17 @@ class Roads:
     def name(self, number: int) -> Any:
         """Returns how the vertex with this number is written; empty for 0, which is no vertex."""
         return (self._names[number - 1] if self._names else number) if number else ""
+
+    def row(self, arc: int) -> int:
+        """Returns the number of the row that an arc is from, or in the file of a graph that of the arc, from 1."""
+        return arc + 1 if self._table is None else self._table.numbers[arc]
+
+    def columns(self, titles: Sequence[str], others: Sequence[str]) -> List[List[str]]:
+        """Returns the cells of these columns. Refused: there is no such column, or the answer has another column of this title."""
+        for at, title in enumerate(titles):
+            if title in (*others, *titles[:at]):
+                raise Refused(f"--column {title}: the answer has a column of this title already", WRONG_LINE)
+        return [] if self._table is None else [self._table.column(self._table.place(title)) for title in titles]
 
     def length(self, distance: int) -> str:
         """Returns a distance of the library in the unit of the table, in full."""
@@ -75,6 +86,7 @@ def _of_graph(path: str, file: Any, asked: Namespace) -> Roads:
     given = {**columns, "--unit": asked.unit, "--zero": asked.zero}
     option = next((name for name, value in given.items() if value is not None), None)
     option = "--both-ways with a column" if option is None and isinstance(asked.both_ways, str) else option
+    option = "--column" if option is None and getattr(asked, "column", None) else option
     if option is not None:
         raise Refused(f"{path}: {option} is for tables: this is the file of a graph", WRONG_LINE)
     graph = Graph.read(file, both_ways=asked.both_ways)
@@ -95,7 +107,9 @@ def _of_table(table: Table, asked: Namespace) -> Roads:
     except BadArc as told:
         cell = table.column(places[2])[told.index]
         raise table.refused(told.index, places[2], _length_fault(cell, asked.unit)) from None
-    return Roads(table.path, graph, asked.unit, f"in the columns {titles[0]!r} and {titles[1]!r}")
+    is_read_again = getattr(asked, "streets", False) or getattr(asked, "column", None)
+    among = f"in the columns {titles[0]!r} and {titles[1]!r}"
+    return Roads(table.path, graph, asked.unit, among, table if is_read_again else None)
 
 
 def _numbers(table: Table, place: int, unit: Optional[Decimal]) -> List[float]:
