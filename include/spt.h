@@ -29,9 +29,9 @@
 #include <stdint.h>
 
 /* The version of this header. SPT_VERSION_NUMBER grows with it; spt_version() returns the version of the library. */
-#define SPT_VERSION "1.5.0"
+#define SPT_VERSION "1.6.0"
 #define SPT_VERSION_MAJOR 1
-#define SPT_VERSION_MINOR 5
+#define SPT_VERSION_MINOR 6
 #define SPT_VERSION_PATCH 0
 #define SPT_VERSION_NUMBER (SPT_VERSION_MAJOR * 10000 + SPT_VERSION_MINOR * 100 + SPT_VERSION_PATCH)
 
@@ -197,9 +197,41 @@ spt_batch spt_graph_trees(const spt_graph *graph, const uint32_t *sources, size_
  *
  * If the target is near, the call takes little time, however large the graph is: behind the place it keeps 8 bytes for each vertex,
  * which the first such call allocates and later ones use again, until spt_graph_free. spt_graph_within, spt_graph_part,
- * spt_graph_nearest with a limit and spt_graph_matrix use them as well. If there is no memory for them the calls do without.
+ * spt_graph_nearest with a limit, spt_graph_matrix, spt_graph_route and spt_graph_routes use them as well. If there is no memory for
+ * them the calls do without.
  * Since 1.1; it keeps this memory since 1.3. */
 spt_found spt_graph_pair(const spt_graph *graph, uint32_t source, uint32_t target, uint64_t delta);
+
+/* The result of a call for a route. With SPT_OK dist is the target's distance and count the number of vertices on the route, or
+ * SPT_UNREACHED and 0 if no path reaches the target and no vertex is too far. With SPT_TOO_FAR vertex is the smallest vertex that is
+ * too far, as for spt_pair. With SPT_NO_SUCH_VERTEX index is 0 for source and 1 for target. A field that the status doesn't use is 0.
+ * Since 1.6. */
+typedef struct spt_route {
+    uint32_t status, vertex;
+    uint64_t dist, index, count;
+} spt_route;
+
+/* Finds the route from source to target in the graph that is kept: the shortest path that takes, read from target backwards, the
+ * smallest-numbered vertex each time. vertices[0] is source, vertices[count - 1] is target, and each vertex but the first has the
+ * one before it for its predecessor in the tree from source. If target is source, count is 1.
+ *
+ * If room is less than count, vertices is unchanged and the status is SPT_OK all the same, so a call with room for 0 finds the number.
+ * A route has at most n vertices, so there is always room for n. Places after the route are unchanged in any case. The refusals are
+ * SPT_NO_GRAPH, SPT_NO_SUCH_VERTEX (source is tested first), SPT_TOO_FAR and SPT_MEMORY; after a refusal vertices is unchanged. A near
+ * target takes as little time as with spt_graph_pair. Since 1.6. */
+spt_route spt_graph_route(const spt_graph *graph, uint32_t source, uint32_t target, uint32_t *vertices, size_t room);
+
+/* Finds the routes from source to k targets in the graph that is kept, by one search: dist[i] becomes the distance of targets[i], with
+ * SPT_UNREACHED and SPT_BEYOND as spt_graph_matrix writes them, and ends[i] the number of vertices on the routes to targets[0] to
+ * targets[i] together. The routes stand in vertices, one after another: the route to targets[i] is vertices[ends[i - 1]] to
+ * vertices[ends[i] - 1], from vertices[0] on for targets[0]. A target without a route has no vertices.
+ *
+ * dist and ends each need at least k places. If room is less than ends[k - 1], vertices is unchanged, while dist and ends are written
+ * and the status is SPT_OK. Places after the k distances and ends and after the routes are unchanged in any case. The refusals are
+ * SPT_NO_GRAPH, SPT_BAD_SIZE (dist or ends has fewer than k places), SPT_NO_SUCH_VERTEX (index is 0 for source and 1 + i for
+ * targets[i]) and SPT_MEMORY, tested in this order; after a refusal the lists are unchanged. Since 1.6. */
+spt_answer spt_graph_routes(const spt_graph *graph, uint32_t source, const uint32_t *targets, size_t k,
+                            uint64_t *dist, size_t dist_places, uint64_t *ends, size_t ends_places, uint32_t *vertices, size_t room);
 
 /* Finds the part of the tree from source that is within limit, in the graph that is kept: dist and pred as spt_tree writes them
  * for each vertex whose least length is at most limit, and SPT_UNREACHED and 0 for every other. Vertices beyond limit have no effect,
@@ -369,6 +401,21 @@ static inline spt_batch spt_graph_trees_or_null(const spt_graph *graph, const ui
                            dist_places ? dist : &no_dist, dist_places, pred_places ? pred : &no_pred, pred_places);
 }
 
+static inline spt_route spt_graph_route_or_null(const spt_graph *graph, uint32_t source, uint32_t target, uint32_t *vertices,
+                                                size_t room) {
+    uint32_t no_vertex = 0;
+    return spt_graph_route(graph, source, target, room ? vertices : &no_vertex, room);
+}
+
+static inline spt_answer spt_graph_routes_or_null(const spt_graph *graph, uint32_t source, const uint32_t *targets, size_t k,
+                                                  uint64_t *dist, size_t dist_places, uint64_t *ends, size_t ends_places,
+                                                  uint32_t *vertices, size_t room) {
+    uint64_t no_dist = 0, no_end = 0;
+    uint32_t no_target = 0, no_vertex = 0;
+    return spt_graph_routes(graph, source, k ? targets : &no_target, k, dist_places ? dist : &no_dist, dist_places,
+                            ends_places ? ends : &no_end, ends_places, room ? vertices : &no_vertex, room);
+}
+
 static inline spt_answer spt_graph_within_or_null(const spt_graph *graph, uint32_t source, uint64_t limit, uint64_t delta,
                                                   uint64_t *dist, size_t dist_places, uint32_t *pred, size_t pred_places) {
     uint64_t no_dist = 0;
@@ -426,6 +473,8 @@ static inline spt_text spt_gr_or_null(const uint8_t *text, size_t bytes, spt_arc
 #define spt_check spt_check_or_null
 #define spt_graph_new spt_graph_new_or_null
 #define spt_graph_trees spt_graph_trees_or_null
+#define spt_graph_route spt_graph_route_or_null
+#define spt_graph_routes spt_graph_routes_or_null
 #define spt_graph_within spt_graph_within_or_null
 #define spt_graph_part spt_graph_part_or_null
 #define spt_graph_nearest spt_graph_nearest_or_null
