@@ -92,8 +92,8 @@ are no x lines. With --towards, D is the length of a shortest path from V to S,
 and P is the vertex after V on it.
 
 It needs at most 28 bytes of memory per vertex, 24 per arc and 8 per source,
-plus 4 MB; if several workers run several sources, another 16 bytes per vertex
-and the text of two trees for each worker.
+plus 4 MB; for several sources, another 32 bytes per vertex; if several workers
+run these, another 16 bytes per vertex and the text of two trees a worker.
 
 Example: if diamond.gr and diamond.ss have the lines
   p sp 4 5

@@ -3,6 +3,7 @@ pub mod Orders
 pub mod Keys
 pub mod KeyOrder
 pub mod Scatter
+pub mod PlacedRows
 pub mod Parts
 pub mod SortedRows
 pub mod RowOrder

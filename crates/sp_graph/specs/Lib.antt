@@ -11,6 +11,7 @@ pub mod Ranges
 pub mod Rising
 pub mod Split
 pub mod RowsValue
+pub mod Placed
 pub mod GraphView
 pub mod RowsView
 pub mod LeftOut

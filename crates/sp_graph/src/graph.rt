@@ -1,5 +1,5 @@
 //! Graphs by rows.
-ghost use Rattle.std.specs.Prelude.{◌≡◌, ◌≤◌, ◌<◌, ◌^◌, ◌↔◌, length, All, IfOk, IsTrue};
+ghost use Rattle.std.specs.Prelude.{◌≡◌, ◌≤◌, ◌<◌, ◌^◌, ◌↔◌, length, All, IfOk, IfSome, IsTrue};
 ghost use Rattle.std.specs.List.Sorted.{IsPermutation};
 ghost use Rattle.sp_paths.specs.Paths.{IsVertex, IsArc, IsGraph};
 ghost use Rattle.sp_paths.specs.Rows.{row_of};
@@ -8,10 +8,13 @@ ghost use Rattle.sp_graph.specs.Longest.{IsLongest};
 ghost use Rattle.sp_graph.specs.Mean.{mean_length};
 ghost use Rattle.sp_graph.specs.Index.{IsRowAt};
 ghost use Rattle.sp_graph.specs.RowEnds.{AreRowEnds};
+ghost use Rattle.sp_graph.specs.Placed.{arcs_in};
 
 use crate::lengths::Lengths;
 use crate::nearness::lead_far;
 use crate::ordering::put_in_order;
+use crate::place::{Few, Place};
+use crate::places::{few_of, place_rows};
 use crate::sharing::put_in_order_by;
 use sp_paths::Arc;
 use sp_word::Workers;
@@ -31,6 +34,8 @@ pub struct Graph {
     // The row of vertex v ends at the index `ends[v]`, where the next row begins.
     ends: Vec<u32>,
     lengths: Lengths,
+    // The arcs of each vertex that has at most four, side by side, if the graph was asked to keep them so.
+    places: Option<Vec<Place>>,
 }
 
 /// The row ends and the lengths of sorted arcs, from which `Graph::from_rows` makes a graph.
@@ -92,6 +97,7 @@ impl Graph {
             arcs: all.arcs,
             ends: all.ends,
             lengths: all.lengths,
+            places: None,
         })
     }
 
@@ -120,6 +126,7 @@ impl Graph {
             arcs: all.arcs,
             ends: all.ends,
             lengths: all.lengths,
+            places: None,
         })
     }
 
@@ -133,11 +140,39 @@ impl Graph {
         ensures n { result.n ≡ n }
         ensures arcs { result.arcs ≡ arcs.items }
     {
+        let RowEnds { ends, lengths } = rows;
         Graph {
             n,
             arcs,
-            ends: rows.ends,
-            lengths: rows.lengths,
+            ends,
+            lengths,
+            places: None,
+        }
+    }
+
+    /// Returns the same graph, which also keeps the arcs of each vertex that has at most four of them in four places side by
+    /// side. These take 32 bytes a vertex. Searches then find a vertex's arcs sooner, which pays from the second search on. If
+    /// there is no memory for the places, the graph stays as it is.
+    pub fn with_places(self, alloc: Global) -> Graph
+        ensures { result ≡ self }
+    {
+        let places = match place_rows(alloc, &self) {
+            Ok(places) => Some(places),
+            Err(AllocError) => None,
+        };
+        let Graph {
+            n,
+            arcs,
+            ends,
+            lengths,
+            ..
+        } = self;
+        Graph {
+            n,
+            arcs,
+            ends,
+            lengths,
+            places,
         }
     }
 
@@ -211,6 +246,40 @@ impl Graph {
     {
         let (low, high) = self.bounds(v);
         &self.arcs[low..high]
+    }
+
+    /// Returns whether the graph keeps rows in places. The contract promises nothing about the result, which affects only the
+    /// running time.
+    pub fn has_places(&self) -> bool {
+        self.places.is_some()
+    }
+
+    /// Returns whether an arc leaves `v`. It takes one look-up if the graph keeps rows in places, and two if it doesn't.
+    pub fn has_arcs(&self, v: u32) -> bool
+        requires { IsVertex self.now.n v }
+        ensures { IsTrue result ↔ 0 < length (row_of self.now.arcs v) }
+    {
+        match &self.places {
+            Some(places) => few_of(places, v).first.head != 0,
+            None => !self.row(v).is_empty(),
+        }
+    }
+
+    /// Returns the places of `v`, if they hold all arcs that leave it, and there is one. It takes one look-up.
+    pub fn few(&self, v: u32) -> Option<Few>
+        requires { IsVertex self.now.n v }
+        ensures row { IfSome result (λ few. arcs_in v few ≡ row_of self.now.arcs v) }
+        ensures some { IfSome result (λ few. 1 ≤ few.first.len) }
+        ensures arcs { IfSome result (λ few. All (IsArc self.now.n) (arcs_in v few)) }
+    {
+        let Some(places) = &self.places else {
+            return None;
+        };
+        let few = few_of(places, v);
+        if few.first.len == 0 {
+            return None;
+        }
+        Some(few)
     }
 
     // Returns where the row of `v` begins and ends in the list of arcs.

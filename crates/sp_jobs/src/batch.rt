@@ -51,7 +51,9 @@ fn answer_batch<const P: u32, R: RunsTeams<P>, W: Write, L: Listener>(
     if let Some(source) = first_above(sources, file.n()) {
         return Err(BatchError::NoSuchVertex(source, Role::Source));
     }
-    let graph = settings.build(rt, alloc, file)?;
+    // Searches within a distance may be short.
+    let searches = if limit.is_none() { sources.len() } else { 1 };
+    let graph = settings.build_for(rt, alloc, file, searches)?;
     let uncounted = Meter::new();
     let question = TreeQuestion {
         job: settings.job(rt, &graph, &uncounted),

@@ -24,6 +24,10 @@ use std::alloc::{AllocError, Global};
 use std::marker::Sync;
 use std::thread::Threads;
 
+// From this many searches of all vertices on, a graph keeps its rows in places too. Making them takes less time than the second
+// search saves.
+const MANY: usize = 2;
+
 impl<const P: u32, L: Listener> Settings<'_, P, L> {
     /// Reads the graph of a job from a file, with one thread per worker. Each job gets its graph by this call, and
     /// then, once it has tested its numbers, by `build`.
@@ -110,6 +114,28 @@ impl<const P: u32, L: Listener> Settings<'_, P, L> {
             arcs: graph.m(),
         });
         Ok(graph)
+    }
+
+    // Does the same for this many searches of all vertices.
+    pub(crate) fn build_for<R: Threads + Sync>(
+        &self,
+        rt: &R,
+        alloc: Global,
+        file: Network,
+        searches: usize,
+    ) -> Result<Graph, AllocError>
+        requires { IsNetworkUpTo P (most_of self.now.direction) file }
+        ensures n { IfOk result (λ graph. graph.n ≡ file.n) }
+        ensures each { IfOk result (λ graph. IsPermutation
+            (directed self.now.direction (graph_of file)).arcs graph.arcs) }
+        ensures arcs { IfOk result
+            (λ graph. AreSame graph (directed self.now.direction (graph_of file))) }
+    {
+        let graph = self.build(rt, alloc, file)?;
+        if searches < MANY {
+            return Ok(graph);
+        }
+        Ok(graph.with_places(alloc))
     }
 
     /// Returns the job in a graph. Its runs count on the listener's meter, or on the other one if the listener has

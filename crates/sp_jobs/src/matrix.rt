@@ -52,7 +52,7 @@ fn answer_matrix<'x, const P: u32, R: RunsTeams<P>, W: Write, L: Listener>(
     if let Some(target) = first_above(targets, vertices) {
         return Err(BatchError::NoSuchVertex(target, Role::Target));
     }
-    let graph = settings.build(rt, alloc, file)?;
+    let graph = settings.build_for(rt, alloc, file, sources.len())?;
     let uncounted = Meter::new();
     let question = RowQuestion {
         job: settings.job(rt, &graph, &uncounted),

@@ -3,9 +3,10 @@
 //! If entries were processed one by one, each would wait for its word, its row and the words of its heads, since the next step
 //! depends on them. Many entries are therefore processed together, in several passes. Each pass reads, for all of them, the data
 //! whose places the pass before has found.
-ghost use Rattle.std.specs.Prelude.{◌≡◌, ◌<◌, ◌≤◌, ◌++◌, true, false, length, vec_len, All, IsTrue, OnOk};
+ghost use Rattle.std.specs.Prelude.{◌≡◌, ◌<◌, ◌≤◌, ◌++◌, true, false, length, take, vec_len, All, IsTrue, OnOk};
 ghost use Rattle.sp_word.specs.Word.{is_layout, max_pred};
 ghost use Rattle.sp_paths.specs.Paths.{IsArc, IsVertex};
+ghost use Rattle.sp_paths.specs.Rows.{row_of};
 ghost use Rattle.sp_serial.specs.Live.{IsTail};
 ghost use Rattle.sp_serial.specs.Lowers.{AreArcs, CanLower, HasLowered};
 
@@ -31,7 +32,7 @@ const FAR: usize = 131_072;
 // At most this many arcs are relaxed together.
 const MOST: usize = 256;
 
-// A row of at most this many arcs is added to the waiting arcs without a branch for each arc.
+// A row of at most this many arcs is added to the waiting arcs without a branch for each arc. A vertex has as many places.
 const FEW_ARCS: usize = 4;
 
 /// Memory for the entries that are processed together.
@@ -137,24 +138,52 @@ fn relax_full<T: Table<P>, const P: u32>(
     relax_waiting(graph, arcs, table, bins)
 }
 
-// Appends the arcs of a row if they are few and there is room, and returns whether it did. It appends as many arcs as the longest
-// such row has, and then drops the surplus, so that no branch depends on the number of arcs.
+// Appends the first `count` of four arcs if there is room, and returns whether it did. It appends all four, and then drops the
+// surplus, so that no branch depends on the number of arcs.
+#[inline(always)]
+fn put_four(four: [Arc; 4], count: usize, arcs: &mut Vec<Arc>) -> bool
+    requires { count ≤ 4 }
+    ensures put { IsTrue result → arcs.new.items ≡ arcs.old.items ++ take count four }
+    ensures refused { result ≡ false → arcs.new ≡ arcs.old }
+{
+    let before = arcs.len();
+    if arcs.capacity().saturating_sub(before) < FEW_ARCS {
+        return false;
+    }
+    arcs.push_reserved(four[0]);
+    arcs.push_reserved(four[1]);
+    arcs.push_reserved(four[2]);
+    arcs.push_reserved(four[3]);
+    arcs.truncate(before + count);
+    true
+}
+
+// Appends the arcs of a row if they are few and there is room, and returns whether it did.
+#[inline(always)]
 fn put_few(row: &[Arc], arcs: &mut Vec<Arc>) -> bool
     requires { 0 < length row.now }
     ensures put { IsTrue result → arcs.new.items ≡ arcs.old.items ++ row.now }
     ensures refused { result ≡ false → arcs.new ≡ arcs.old }
 {
-    let before = arcs.len();
     let last = row.len() - 1;
-    if last >= FEW_ARCS || arcs.capacity().saturating_sub(before) < FEW_ARCS {
+    if last >= FEW_ARCS {
         return false;
     }
-    arcs.push_reserved(row[0]);
-    arcs.push_reserved(row[last.min(1)]);
-    arcs.push_reserved(row[last.min(2)]);
-    arcs.push_reserved(row[last]);
-    arcs.truncate(before + row.len());
-    true
+    let four = [row[0], row[last.min(1)], row[last.min(2)], row[last]];
+    put_four(four, row.len(), arcs)
+}
+
+// Appends the arcs of a vertex if they are few and there is room, and returns whether it did.
+#[inline(always)]
+fn put_at_once(graph: &Graph, vertex: u32, arcs: &mut Vec<Arc>) -> bool
+    requires { IsTail graph.now vertex }
+    ensures put { IsTrue result → arcs.new.items ≡ arcs.old.items ++ row_of graph.now.arcs vertex }
+    ensures refused { result ≡ false → arcs.new ≡ arcs.old }
+{
+    match graph.few(vertex) {
+        Some(few) => put_four(few.arcs(vertex), few.count(), arcs),
+        None => put_few(graph.row(vertex), arcs),
+    }
 }
 
 // Appends the arcs of a vertex to the waiting arcs, one after the other.
@@ -194,7 +223,7 @@ fn put_row<T: Table<P>, const P: u32>(
         (T.labels table.old) (T.labels table.new) (T.IsKept table.new) }
     ensures arcs { OnOk result (AreArcs graph.now arcs.new.items) }
 {
-    let is_put = put_few(graph.row(vertex), arcs);
+    let is_put = put_at_once(graph, vertex, arcs);
     if is_put {
         relax_full(graph, arcs, table, bins)
     } else {
@@ -223,6 +252,33 @@ fn relax_live<T: Table<P>, const P: u32>(
     relax_waiting(graph, arcs, table, bins)
 }
 
+// Relaxes the arcs of a row, whose tail has this distance. Heads that came nearer are added to buckets.
+fn relax_arcs<T: Table<P>, const P: u32>(
+    graph: &Graph,
+    row: &[Arc],
+    dist: u64,
+    table: &mut T,
+    bins: &mut Bins,
+) -> Result<(), AllocError>
+    requires arcs { AreArcs graph.now row.now }
+    requires words { CanLower P graph.now (T.labels table.old) (T.IsKept table.old) }
+    ensures { HasLowered P graph.now
+        (T.labels table.old) (T.labels table.new) (T.IsKept table.new) }
+{
+    // The graph's arcs lead from vertices to vertices.
+    let _ = graph.n();
+    for arc in row {
+        if let Some(found) = table.lower(*arc)? {
+            let head = Entry {
+                vertex: arc.head,
+                dist: found,
+            };
+            bins.put_head(head, dist)?;
+        }
+    }
+    Ok(())
+}
+
 // Relaxes the arcs of an entry's vertex, if the vertex still has the entry's distance. Heads that came nearer are added to
 // buckets.
 fn relax_row<T: Table<P>, const P: u32>(
@@ -235,22 +291,14 @@ fn relax_row<T: Table<P>, const P: u32>(
     ensures { HasLowered P graph.now
         (T.labels table.old) (T.labels table.new) (T.IsKept table.new) }
 {
-    let vertex = entry.vertex;
-    // The graph's arcs lead from vertices to vertices.
-    let _ = graph.n();
-    if !graph.has_vertex(vertex) || look_up(table.words(), vertex).dist() != Some(entry.dist) {
+    let Entry { vertex, dist } = entry;
+    if !graph.has_vertex(vertex) || look_up(table.words(), vertex).dist() != Some(dist) {
         return Ok(());
     }
-    for arc in graph.row(vertex) {
-        if let Some(dist) = table.lower(*arc)? {
-            let head = Entry {
-                vertex: arc.head,
-                dist,
-            };
-            bins.put_head(head, entry.dist)?;
-        }
+    match graph.few(vertex) {
+        Some(few) => relax_arcs(graph, &few.arcs(vertex)[..few.count()], dist, table, bins),
+        None => relax_arcs(graph, graph.row(vertex), dist, table, bins),
     }
-    Ok(())
 }
 
 // Relaxes the arcs of the vertex of each entry.
@@ -295,14 +343,15 @@ fn relax_some<T: Table<P>, const P: u32>(
     if entries.len() < FEW {
         return relax_each(graph, entries, table, bins);
     }
-    if count_live(graph, table.words(), entries) == 0 {
+    // Where rows are kept in places, taking the vertices reads all that relaxing needs.
+    if !graph.has_places() && count_live(graph, table.words(), entries) == 0 {
         return Ok(());
     }
     let BatchBuffers { vertices, arcs } = batch;
     make_room(vertices, entries.len())?;
     let live = take_live(graph, table.words(), entries, vertices);
     let live = &vertices[..live];
-    if end_bits(graph, live) == 0 {
+    if !graph.has_places() && end_bits(graph, live) == 0 {
         return Ok(());
     }
     relax_live(graph, live, arcs, table, bins)

@@ -19,11 +19,11 @@ fn is_live<const P: u32>(graph: &Graph, words: &[Word<P>], entry: Entry) -> bool
         return false;
     }
     let has_dist = look_up(words, vertex).dist() == Some(entry.dist);
-    has_dist & !graph.row(vertex).is_empty()
+    has_dist & graph.has_arcs(vertex)
 }
 
 /// Returns the number of entries whose vertex has arcs and still has the entry's distance. In doing so it reads, for all entries,
-/// the vertex's word and where its row begins and ends.
+/// the vertex's word, and its places or where its row begins and ends.
 pub(crate) fn count_live<const P: u32>(graph: &Graph, words: &[Word<P>], entries: &[Entry]) -> usize
     requires { length words.now ≡ graph.now.n }
 {

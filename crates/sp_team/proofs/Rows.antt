@@ -1,19 +1,20 @@
 -- What the arcs of a row may offer.
-use Rattle.std.proofs.Common.{◌≡◌, ℕ, zero, suc, ◌+◌, ◌-◌, ◌<◌, ◌≤◌, ◌∙◌, Bool, true, false, List, [], ◌∷◌, ◌++◌, append_assoc, min, max, length, get_or, take, set, map, refl, sym, ap, subst, arith}
+use Rattle.std.proofs.Common.{◌≡◌, ℕ, zero, suc, ◌+◌, ◌-◌, ◌<◌, ◌≤◌, ◌∙◌, Bool, true, false, List, [], ◌∷◌, min, length, get_or, take, set, map, refl, sym, ap, subst, arith}
 use Rattle.std.specs.Prelude.{All, Contains}
 use Rattle.std.specs.Int.{from_bool}
-use Rattle.std.proofs.lemmas.List.{take_more_set, take-set, get_or_default}
-use lib.Seq.{take-append-add}
-use Rattle.std.proofs.lemmas.List.Elements.{Contains-get_or, All-append, All-map, All-push}
-use Rattle.sp_word.specs.Word.{Word, Pair}
+use Rattle.std.proofs.lemmas.List.{take_more_set, take-set}
+use Rattle.std.proofs.lemmas.List.Elements.{Contains-get_or, All-append, All-cons, All-contains, All-head, All-map, All-nil, All-push}
+use Rattle.sp_word.specs.Word.{Word, Pair, max_pred}
 use Rattle.sp_paths.specs.declared.arc.Arc.{Arc}
-use Rattle.sp_paths.specs.Paths.{Graph, IsArc}
+use Rattle.sp_paths.specs.Paths.{Graph, IsArc, IsGraph}
 use Rattle.sp_paths.specs.Rows.{row_of}
 use Rattle.sp_paths.proofs.RowSteps.{in_row}
+use Rattle.sp_graph.specs.declared.place.Few.{Few}
+use Rattle.sp_graph.specs.Placed.{arc_at, arcs_in, before}
 use Rattle.sp_team.specs.declared.relax.Request.{Request}
 use Rattle.sp_team.specs.Law.{AllowsArcs, AllowsSum}
 use Rattle.sp_offer.specs.Order.{lawful}
-use Rattle.sp_team.specs.Requests.{IsRequest, request, HasTail, Asks, AsksAll}
+use Rattle.sp_team.specs.Requests.{IsRequest, request, HasTail, HaveTails, Asks, AsksAll}
 
 -- the arcs of a row may offer what they make of a word that its vertex may have
 pub row_allowed : (law : ℕ → Word → Type 0) (max : ℕ) (g : Graph) (v d p : ℕ) (row : List Arc) → AllowsArcs law max g → law v (Pair d p) → row ≡ row_of g.arcs v
@@ -22,6 +23,10 @@ row_allowed law max g v d p row allows here is k e low fits =
     let a = get_or row k e in
     let in' = in_row g.arcs v a (subst (λ xs. Contains xs a) is (Contains-get_or row k e low)) in
     allows a.tail a.head a.len d p in'.0 (subst (λ u. law u (Pair d p)) (sym in'.1) here) fits
+
+-- the arcs of a row are arcs of the graph
+pub row_arcs : (g : Graph) (v : ℕ) → IsGraph g → All (IsArc g.n) (row_of g.arcs v)
+row_arcs g v held = λ k e low. let a = get_or (row_of g.arcs v) k e in All-contains (IsArc g.n) g.arcs a held (in_row g.arcs v a (Contains-get_or (row_of g.arcs v) k e low)).0
 
 -- nor has it a tail that isn't one of a word
 pub rows_tails : (P max d : ℕ) (allows : ℕ → Word → Type 0) (row : List Arc) → All (AllowsSum (lawful P allows) max d) row → All (HasTail P max d) row
@@ -63,55 +68,50 @@ one_kept_more P xs kept one x false low is here held =
     let none : kept + one ≡ kept = omega (arith, is) in
     subst (All P) (sym (ap (λ n. take n (set xs kept x)) none ∙ take-set xs kept x)) held
 
--- ## A row of at most four arcs
+-- ## Four arcs
 
 cons_both : {Y : Type 0} {a b : Y} {xs ys : List Y} → a ≡ b → xs ≡ ys → a ∷ xs ≡ b ∷ ys
 cons_both {Y} {a} {b} {xs} {ys} p q = ap (λ y. y ∷ xs) p ∙ ap (λ zs. b ∷ zs) q
 
+-- what holds of each of four holds of all
+all_four : {X : Type 0} (P : X → Type 0) (a b c d : X) → P a → P b → P c → P d → All P (a ∷ b ∷ c ∷ d ∷ [])
+all_four P a b c d at_a at_b at_c at_d = All-cons P a (b ∷ c ∷ d ∷ []) at_a (All-cons P b (c ∷ d ∷ []) at_b (All-cons P c (d ∷ []) at_c (All-cons P d [] at_d (All-nil P))))
+
+-- ## A row of at most four arcs
+
 -- as many of four as there are arcs
-firsts : {X Y : Type 0} (f : X → Y) (row : List X) (e : X) (second third last : ℕ) (a b c d : Y) → 1 ≤ length row → last ≡ length row - 1 → last < 4
-    → second ≡ min last 1 → third ≡ min last 2 → a ≡ f (get_or row 0 e) → b ≡ f (get_or row second e) → c ≡ f (get_or row third e) → d ≡ f (get_or row last e)
-    → take (length row) (a ∷ b ∷ c ∷ d ∷ []) ≡ map f row
-firsts f [] e second third last a b c d some is few two three at_a at_b at_c at_d = absurd (omega (arith, some))
-firsts f (x ∷ []) e second third last a b c d some is few two three at_a at_b at_c at_d = ap (λ y. y ∷ []) at_a
-firsts f (x ∷ y ∷ []) e second third last a b c d some is few two three at_a at_b at_c at_d =
+pub firsts : {X : Type 0} (row : List X) (e : X) (second third last : ℕ) → 1 ≤ length row → last ≡ length row - 1 → last < 4 → second ≡ min last 1 → third ≡ min last 2
+    → take (length row) (get_or row 0 e ∷ get_or row second e ∷ get_or row third e ∷ get_or row last e ∷ []) ≡ row
+firsts [] e second third last some is few two three = absurd (omega (arith, some))
+firsts (x ∷ []) e second third last some is few two three = refl
+firsts (x ∷ y ∷ []) e second third last some is few two three =
     let here : second ≡ 1 = omega (arith, is, two) in
-    cons_both at_a (cons_both (at_b ∙ ap (λ i. f (get_or (x ∷ y ∷ []) i e)) here) refl)
-firsts f (x ∷ y ∷ z ∷ []) e second third last a b c d some is few two three at_a at_b at_c at_d =
+    cons_both refl (cons_both (ap (λ i. get_or (x ∷ y ∷ []) i e) here) refl)
+firsts (x ∷ y ∷ z ∷ []) e second third last some is few two three =
     let here : second ≡ 1 = omega (arith, is, two) in
     let there : third ≡ 2 = omega (arith, is, three) in
     let row = x ∷ y ∷ z ∷ [] in
-    cons_both at_a (cons_both (at_b ∙ ap (λ i. f (get_or row i e)) here) (cons_both (at_c ∙ ap (λ i. f (get_or row i e)) there) refl))
-firsts f (x ∷ y ∷ z ∷ w ∷ []) e second third last a b c d some is few two three at_a at_b at_c at_d =
+    cons_both refl (cons_both (ap (λ i. get_or row i e) here) (cons_both (ap (λ i. get_or row i e) there) refl))
+firsts (x ∷ y ∷ z ∷ w ∷ []) e second third last some is few two three =
     let here : second ≡ 1 = omega (arith, is, two) in
     let there : third ≡ 2 = omega (arith, is, three) in
     let end : last ≡ 3 = omega (arith, is) in
     let row = x ∷ y ∷ z ∷ w ∷ [] in
-    cons_both at_a (cons_both (at_b ∙ ap (λ i. f (get_or row i e)) here) (cons_both (at_c ∙ ap (λ i. f (get_or row i e)) there) (cons_both (at_d ∙ ap (λ i. f (get_or row i e)) end) refl)))
-firsts f (x ∷ y ∷ z ∷ w ∷ v ∷ more) e second third last a b c d some is few two three at_a at_b at_c at_d = absurd (omega (arith, is, few))
+    cons_both refl (cons_both (ap (λ i. get_or row i e) here) (cons_both (ap (λ i. get_or row i e) there) (cons_both (ap (λ i. get_or row i e) end) refl)))
+firsts (x ∷ y ∷ z ∷ w ∷ v ∷ more) e second third last some is few two three = absurd (omega (arith, is, few))
 
--- what is left of four that were put behind others
-pub few_pushed : {X Y : Type 0} (f : X → Y) (row : List X) (e : X) (rs ss : List Y) (second third last : ℕ) (a b c d : Y) → 1 ≤ length row → last ≡ length row - 1 → last < 4
-    → second ≡ min last 1 → third ≡ min last 2 → a ≡ f (get_or row 0 e) → b ≡ f (get_or row second e) → c ≡ f (get_or row third e) → d ≡ f (get_or row last e)
-    → ss ≡ take (length rs + length row) ((((rs ++ a ∷ []) ++ b ∷ []) ++ c ∷ []) ++ d ∷ []) → ss ≡ rs ++ map f row
-few_pushed f row e rs ss second third last a b c d some is few two three at_a at_b at_c at_d left =
-    let four = a ∷ b ∷ c ∷ d ∷ [] in
-    let joined : (((rs ++ a ∷ []) ++ b ∷ []) ++ c ∷ []) ++ d ∷ [] ≡ rs ++ four =
-    append_assoc ((rs ++ a ∷ []) ++ b ∷ []) (c ∷ []) (d ∷ []) ∙ (append_assoc (rs ++ a ∷ []) (b ∷ []) (c ∷ d ∷ []) ∙ append_assoc rs (a ∷ []) (b ∷ c ∷ d ∷ [])) in
-    left ∙ (ap (take (length rs + length row)) joined ∙ (take-append-add rs four (length row) ∙ ap (λ xs. rs ++ xs) (firsts f row e second third last a b c d some is few two three at_a at_b at_c at_d)))
+-- ## The arcs in places
 
--- the sums of all arcs are within the greatest distance, where that of the longest of four is
-pub few_fit : (row : List Arc) (e : Arc) (second third last one two longest d most : ℕ) → last ≡ length row - 1 → last < 4 → second ≡ min last 1 → third ≡ min last 2
-    → one ≡ max (get_or row 0 e).len (get_or row second e).len → two ≡ max one (get_or row third e).len → longest ≡ max two (get_or row last e).len → d + longest ≤ most
-    → All (λ a. d + a.len ≤ most) row
-few_fit row e second third last one two longest d most is few at_two at_three first next end room = λ k f low. subst (λ (a : Arc). d + a.len ≤ most) (get_or_default row k e f low) (fits k low)
-  where
-    fits : (k : ℕ) → k < length row → d + (get_or row k e).len ≤ most
-    fits zero low = omega (arith, first, next, end, room)
-    fits (suc zero) low =
-        let here : second ≡ 1 = omega (arith, is, at_two, low) in
-        let more = subst (λ i. one ≡ max (get_or row 0 e).len (get_or row i e).len) here first in omega (arith, more, next, end, room)
-    fits (suc (suc zero)) low =
-        let here : third ≡ 2 = omega (arith, is, at_three, low) in let more = subst (λ i. two ≡ max one (get_or row i e).len) here next in omega (arith, more, end, room)
-    fits (suc (suc (suc zero))) low = let here : last ≡ 3 = omega (arith, is, few, low) in let more = subst (λ i. longest ≡ max two (get_or row i e).len) here end in omega (arith, more, room)
-    fits (suc (suc (suc (suc k)))) low = absurd (omega (arith, is, few, low))
+-- what holds of all holds of the first one
+first_before : (P : Arc → Type 0) (t h l : ℕ) (rest : List Arc) → 1 ≤ l → All P (before t h l rest) → P (record { tail = t; head = h; len = l })
+first_before P t h zero rest some held = absurd (omega (arith, some))
+first_before P t h (suc l) rest some held = All-head P (record { tail = t; head = h; len = suc l }) rest held
+
+-- all four have the tail of the first one, which is one of a word
+pub tails_placed : (P max dist t : ℕ) (few : Few) (a b c d : Arc) → a ≡ arc_at t few.first → b ≡ arc_at t few.second → c ≡ arc_at t few.third → d ≡ arc_at t few.fourth → 1 ≤ few.first.len
+    → All (HasTail P max dist) (arcs_in t few) → HaveTails P max dist (a ∷ b ∷ c ∷ d ∷ [])
+tails_placed P max dist t few a b c d at_a at_b at_c at_d some held = λ fits.
+    let sum : dist + few.first.len ≤ max = subst (λ (x : Arc). dist + x.len ≤ max) at_a (fits 0 a (omega arith)) in
+    let here : t ≤ max_pred P = first_before (HasTail P max dist) t few.first.head few.first.len _ some held sum in
+    let Fits : Arc → Type 0 = λ x. x.tail ≤ max_pred P in
+    all_four Fits a b c d (subst Fits (sym at_a) here) (subst Fits (sym at_b) here) (subst Fits (sym at_c) here) (subst Fits (sym at_d) here)

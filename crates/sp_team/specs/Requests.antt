@@ -18,6 +18,10 @@ request P dist a = record { word = Pair (dist + a.len) a.tail; head = a.head; le
 abbrev pub HasTail : (P max dist : ℕ) → Arc → Type 0
 HasTail P max dist a = dist + a.len ≤ max → a.tail ≤ max_pred P
 
+-- if the sums of all these arcs are within the greatest distance, their tails fit in a word
+abbrev pub HaveTails : (P max dist : ℕ) → List Arc → Type 0
+HaveTails P max dist arcs = All (λ a. dist + a.len ≤ max) arcs → All (λ a. a.tail ≤ max_pred P) arcs
+
 -- if the sum is within the greatest distance, a request for the arc was appended; otherwise none was
 abbrev pub Asks : (P max : ℕ) → Arc → (dist : ℕ) → (fits : Bool) → (before after : List (Request P)) → Type 0
 Asks P max a dist true before after = (dist + a.len ≤ max) × (after ≡ before ++ request P dist a ∷ [])

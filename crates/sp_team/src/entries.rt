@@ -46,11 +46,11 @@ pub(crate) fn is_live<L: Lawful, const P: u32>(
 pub(crate) fn leads_on(graph: &Graph, entry: Entry) -> bool
     ensures { IsTrue result → LeadsOn graph.now entry }
 {
-    graph.has_vertex(entry.vertex) && !graph.row(entry.vertex).is_empty()
+    graph.has_vertex(entry.vertex) && graph.has_arcs(entry.vertex)
 }
 
-/// Reads the words of the entries' vertices, and where their rows begin and end, to bring both into the cache. These reads don't
-/// wait for one another. Returns the number of arcs that leave the vertices.
+/// Reads the words of the entries' vertices, and their places or where their rows begin and end, to bring both into the cache. These
+/// reads don't wait for one another. Returns for how many entries an arc leaves the vertex.
 pub(crate) fn warm_vertices<L: Lawful, const P: u32>(
     graph: &Graph,
     table: &OfferTable<L, P>,
@@ -61,14 +61,14 @@ pub(crate) fn warm_vertices<L: Lawful, const P: u32>(
     requires caller { caller.old.table ≡ table.now.id }
     ensures { IsLater (lawful P (L.allows table.now.law)) caller.old caller.new }
 {
-    let mut arcs: usize = 0;
+    let mut leading: usize = 0;
     for entry in entries {
         if graph.has_vertex(entry.vertex) {
             let _ = read_dist(table, entry.vertex, caller);
-            arcs = arcs.wrapping_add(graph.row(entry.vertex).len());
+            leading = leading.wrapping_add(usize::from(graph.has_arcs(entry.vertex)));
         }
     }
-    arcs
+    leading
 }
 
 // Returns the bitwise or of the first heads in the rows of the entries' vertices; 0 if there is no entry.

@@ -1,11 +1,13 @@
 //! Relaxes vertices: their arcs put requests, which are then offered to the heads.
-ghost use Rattle.std.specs.Prelude.{◌≡◌, ◌+◌, ◌≤◌, true, false, [], All, IfOk, IsTrue, OnOk};
+ghost use Rattle.std.specs.Prelude.{◌≡◌, ◌+◌, ◌≤◌, true, false, [], take, All, IfOk, IsTrue, OnOk};
 ghost use Rattle.sp_word.specs.Word.{is_layout, max_dist};
-ghost use Rattle.sp_paths.specs.Paths.{IsArc};
+ghost use Rattle.sp_paths.specs.Paths.{IsArc, IsVertex};
+ghost use Rattle.sp_paths.specs.Rows.{row_of};
+ghost use Rattle.sp_graph.specs.Placed.{arcs_in};
 ghost use Rattle.sp_offer.specs.Order.{lawful};
 ghost use Rattle.sp_offer.specs.Story.{known_table};
 ghost use Rattle.sp_team.specs.Law.{IsReady, AllowsSum};
-ghost use Rattle.sp_team.specs.Requests.{IsRequest, request, HasTail, Asks, AsksAll};
+ghost use Rattle.sp_team.specs.Requests.{IsRequest, request, HasTail, HaveTails, Asks, AsksAll};
 ghost use Rattle.sp_team.specs.Later.{IsLater};
 ghost use Rattle.sp_team.specs.Live.{IsLive};
 ghost use Rattle.sp_team.specs.Marked.{IsMet, WillBeMet, RowWillBeMet, WillBeTrue};
@@ -13,7 +15,7 @@ ghost use Rattle.sp_team.specs.Marked.{IsMet, WillBeMet, RowWillBeMet, WillBeTru
 use crate::entries::read_dist;
 use crate::notes::Notes;
 use sp_bins::{Bins, Entry};
-use sp_graph::Graph;
+use sp_graph::{Few, Graph};
 use sp_offer::{Caller, Lawful, OfferTable};
 use sp_paths::Arc;
 use sp_word::{Reply, Word};
@@ -23,7 +25,7 @@ use std::alloc::AllocError;
 pub(crate) const MOST: usize = 512;
 
 /// The longest row whose requests are put without a branch for each arc.
-pub(crate) const FEW: usize = 4;
+pub(crate) const FEW: usize = Few::PLACES;
 
 /// The offer that an arc of a relaxed vertex asks for at its head.
 #[derive(Clone, Copy)]
@@ -231,28 +233,29 @@ fn ask_each<L: Lawful, const P: u32>(
     Ok(whole)
 }
 
-// Puts requests for the arcs of a row at their tail's distance, if the row is short, there is room, and all sums are within the
-// greatest distance. It first puts as many requests as the longest short row would have, then drops the surplus, so that no
-// branch depends on the number of arcs. Returns whether it put them.
-fn ask_few<const P: u32>(row: &[Arc], dist: u64, requests: &mut Vec<Request<P>>) -> bool
+// Puts requests for the first of four arcs, as many as `count`, at their tail's distance, if there is room and the sums of all four
+// are within the greatest distance. It first puts all four requests, then drops the surplus, so that no branch depends on the
+// number of arcs. Returns whether it put them.
+#[inline(always)]
+fn ask_four<const P: u32>(
+    arcs: [Arc; FEW],
+    count: usize,
+    dist: u64,
+    requests: &mut Vec<Request<P>>,
+) -> bool
     requires layout { is_layout P ≡ true }
+    requires count { count ≤ 4 }
     requires dist { dist ≤ max_dist P }
-    requires tails { All (HasTail P (max_dist P) dist) row.now }
+    requires tails { HaveTails P (max_dist P) dist arcs }
     ensures asked { IsTrue result
-        → AsksAll P (max_dist P) row.now dist requests.old.items requests.new.items }
+        → AsksAll P (max_dist P) (take count arcs) dist requests.old.items requests.new.items }
     ensures refused { result ≡ false → requests.new ≡ requests.old }
 {
     let before = requests.len();
-    let Some(last) = row.len().checked_sub(1) else {
-        return false;
-    };
-    if last >= FEW || requests.capacity().saturating_sub(before) < FEW {
+    if requests.capacity().saturating_sub(before) < FEW {
         return false;
     }
-    let first = row[0];
-    let second = row[last.min(1)];
-    let third = row[last.min(2)];
-    let fourth = row[last];
+    let [first, second, third, fourth] = arcs;
     let longest = first.len.max(second.len).max(third.len).max(fourth.len);
     if u64::from(longest) > Word::<P>::max_dist() - dist {
         return false;
@@ -261,25 +264,89 @@ fn ask_few<const P: u32>(row: &[Arc], dist: u64, requests: &mut Vec<Request<P>>)
     requests.push_reserved(request_of(second, dist));
     requests.push_reserved(request_of(third, dist));
     requests.push_reserved(request_of(fourth, dist));
-    requests.truncate(before + row.len());
+    requests.truncate(before + count);
     true
 }
 
-// Puts requests for the arcs of a row at their tail's distance, and answers them when many are waiting. Returns whether each arc
-// got a request.
-fn ask_row<L: Lawful, const P: u32>(
-    table: &OfferTable<L, P>,
-    row: &[Arc],
+// Puts requests for the arcs of a row at their tail's distance, if the row is short, there is room, and all sums are within the
+// greatest distance. Returns whether it put them.
+fn ask_listed<const P: u32>(row: &[Arc], dist: u64, requests: &mut Vec<Request<P>>) -> bool
+    requires layout { is_layout P ≡ true }
+    requires dist { dist ≤ max_dist P }
+    requires tails { All (HasTail P (max_dist P) dist) row.now }
+    ensures asked { IsTrue result
+        → AsksAll P (max_dist P) row.now dist requests.old.items requests.new.items }
+    ensures refused { result ≡ false → requests.new ≡ requests.old }
+{
+    let Some(last) = row.len().checked_sub(1) else {
+        return false;
+    };
+    if last >= FEW {
+        return false;
+    }
+    let arcs = [row[0], row[last.min(1)], row[last.min(2)], row[last]];
+    ask_four(arcs, row.len(), dist, requests)
+}
+
+// Puts requests for the arcs in the places of a vertex at its distance, if there is room, and all sums are within the greatest
+// distance. Returns whether it put them.
+fn ask_placed<const P: u32>(tail: u32, few: Few, dist: u64, requests: &mut Vec<Request<P>>) -> bool
+    requires layout { is_layout P ≡ true }
+    requires some { 1 ≤ few.first.len }
+    requires dist { dist ≤ max_dist P }
+    requires tails { All (HasTail P (max_dist P) dist) (arcs_in tail few) }
+    ensures asked { IsTrue result
+        → AsksAll P (max_dist P) (arcs_in tail few) dist requests.old.items requests.new.items }
+    ensures refused { result ≡ false → requests.new ≡ requests.old }
+{
+    let arcs = [
+        few.first.arc(tail),
+        few.second.arc(tail),
+        few.third.arc(tail),
+        few.fourth.arc(tail),
+    ];
+    ask_four(arcs, few.count(), dist, requests)
+}
+
+// Puts requests for the arcs that leave a vertex at its distance, if these are few, there is room, and all sums are within the
+// greatest distance. Returns whether it put them.
+fn ask_few<const P: u32>(
+    graph: &Graph,
+    vertex: u32,
     dist: u64,
+    requests: &mut Vec<Request<P>>,
+) -> bool
+    requires layout { is_layout P ≡ true }
+    requires vertex { IsVertex graph.now.n vertex }
+    requires dist { dist ≤ max_dist P }
+    requires tails { All (HasTail P (max_dist P) dist) (row_of graph.now.arcs vertex) }
+    ensures asked { IsTrue result → AsksAll P (max_dist P)
+        (row_of graph.now.arcs vertex) dist requests.old.items requests.new.items }
+    ensures refused { result ≡ false → requests.new ≡ requests.old }
+{
+    match graph.few(vertex) {
+        Some(few) => ask_placed(vertex, few, dist, requests),
+        None => ask_listed(graph.row(vertex), dist, requests),
+    }
+}
+
+// Puts requests for the arcs of an entry's vertex at the entry's distance, and answers them when many are waiting. Returns whether
+// each arc got a request.
+fn ask_row<L: Lawful, const P: u32>(
+    graph: &Graph,
+    table: &OfferTable<L, P>,
+    entry: Entry,
     requests: &mut Vec<Request<P>>,
     caller: &mut Caller,
     bins: &mut Bins,
 ) -> Result<bool, AllocError>
     requires layout { is_layout P ≡ true }
-    requires dist { dist ≤ max_dist P }
-    requires arcs { All (IsArc table.now.vertices) row.now }
+    requires vertex { IsVertex graph.now.n entry.vertex }
+    requires dist { entry.dist ≤ max_dist P }
+    requires arcs { All (IsArc table.now.vertices) (row_of graph.now.arcs entry.vertex) }
     requires allowed { All
-        (AllowsSum (lawful P (L.allows table.now.law)) (max_dist P) dist) row.now }
+        (AllowsSum (lawful P (L.allows table.now.law)) (max_dist P) entry.dist)
+        (row_of graph.now.arcs entry.vertex) }
     requires requests { All (IsRequest (lawful P (L.allows table.now.law)) table.now.vertices)
         requests.old.items }
     requires caller { caller.old.table ≡ table.now.id }
@@ -290,16 +357,17 @@ fn ask_row<L: Lawful, const P: u32>(
         requests.new.items) requests.old.items) }
     ensures row { IfOk result (λ whole. IsTrue whole
         → RowWillBeMet (max_dist P) (known_table caller.new.story)
-        requests.new.items dist row.now) }
+        requests.new.items entry.dist (row_of graph.now.arcs entry.vertex)) }
 {
-    let is_asked = ask_few(row, dist, requests);
+    let Entry { vertex, dist } = entry;
+    let is_asked = ask_few(graph, vertex, dist, requests);
     if is_asked {
         if requests.len() >= MOST {
             answer(table, requests, caller, bins)?;
         }
         Ok(true)
     } else {
-        ask_each(table, row, dist, requests, caller, bins)
+        ask_each(table, graph.row(vertex), dist, requests, caller, bins)
     }
 }
 
@@ -325,16 +393,10 @@ pub(crate) fn ask<L: Lawful, const P: u32>(
     ensures marks { OnOk result (All (WillBeTrue (max_dist P) graph.now
         (known_table caller.new.story) notes.new.requests.items) notes.new.marks.items) }
 {
-    let Entry { vertex, dist } = entry;
-    if ask_row(
-        table,
-        graph.row(vertex),
-        dist,
-        &mut notes.requests,
-        caller,
-        bins,
-    )? {
-        notes.note(vertex, dist);
+    // Its contract tells that the heads of the arcs are vertices.
+    let _ = graph.n();
+    if ask_row(graph, table, entry, &mut notes.requests, caller, bins)? {
+        notes.note(entry.vertex, entry.dist);
     }
     Ok(())
 }

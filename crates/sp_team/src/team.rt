@@ -174,10 +174,11 @@ fn run_some<L: Lawful, const P: u32>(
     ensures marks { OnOk result (AllTrue (max_dist P) graph.now caller.new.story
         batch.new.notes.marks.items) }
 {
-    let arcs = warm_vertices(graph, table, work_queue.upcoming(STRETCH), caller);
+    let leading = warm_vertices(graph, table, work_queue.upcoming(STRETCH), caller);
     let relaxed = take_live(graph, table, work_queue, horizon, &mut batch.live, caller)?;
     work_queue.count(relaxed);
-    if arcs == 0 || end_bits(graph, &batch.live) == 0 {
+    // Places are in the cache already.
+    if leading == 0 || !graph.has_places() && end_bits(graph, &batch.live) == 0 {
         return Ok(());
     }
     relax_live(graph, table, work_queue, batch, caller)

@@ -16,7 +16,7 @@ impl SharedGraph {
         ensures { IfOk result (λ shared. owned shared ≡ graph) }
     {
         Ok(SharedGraph {
-            graph: Arc::new(alloc, graph)?,
+            graph: Arc::new(alloc, graph.with_places(alloc))?,
             pool: AnySearchPool::new(),
         })
     }

@@ -1,20 +1,24 @@
-use Rattle.std.proofs.Common.{Vec, sym, subst, arith}
+use Rattle.std.proofs.Common.{Vec, refl, sym, subst, arith}
 use Rattle.std.specs.Prelude.{All}
 use Rattle.std.specs.declared.alloc.Global.{Global}
 use Rattle.sp_word.specs.Word.{max_dist}
 use Rattle.sp_paths.specs.Paths.{IsArc}
+use Rattle.sp_paths.specs.Rows.{row_of}
 use Rattle.sp_offer.specs.Order.{lawful}
 use Rattle.sp_offer.specs.Story.{known_table}
 use Rattle.sp_team.specs.declared.relax.Request.{Request}
 use Rattle.sp_team.specs.Marked.{WillBeTrue}
 use Rattle.sp_team.proofs.Marks.{marks_along, noted, mark_of_row}
-use Rattle.sp_team.proofs.Rows.{row_allowed}
+use Rattle.sp_team.proofs.Rows.{row_allowed, row_arcs}
 use Rattle.sp_team.proofs.relax.ask.Goals as goal
 
 pub ask_row-requires : goal.ask_row-requires
 ask_row-requires g c =
     let ready = c.requires.ready in
     let held = c.requires.live.1 in
+    let graph = c.args.graph.now in
+    let vertex = c.args.entry.vertex in
+    let row = row_of graph.arcs vertex in
     let law = lawful g.row.P (g.L.Lawful.allows c.args.table.now.law) in (
       omega arith,
       (
@@ -22,14 +26,17 @@ ask_row-requires g c =
         (
           ready.layout,
           (
-            held.1.1.0,
+            c.requires.live.0.0,
             (
-              subst (λ n. All (IsArc n) c.row.result.now) (sym ready.words) c.row.ensures.arcs,
+              held.1.1.0,
               (
-                row_allowed law (max_dist g.row.P) c.args.graph.now c.args.entry.vertex c.args.entry.dist held.0 c.row.result.now ready.arcs held.1 c.row.ensures.row,
+                subst (λ n. All (IsArc n) row) (sym ready.words) (row_arcs graph vertex c.n.ensures.graph),
                 (
-                  c.requires.requests,
-                  c.requires.caller,
+                  row_allowed law (max_dist g.row.P) graph vertex c.args.entry.dist held.0 row ready.arcs held.1 refl,
+                  (
+                    c.requires.requests,
+                    c.requires.caller,
+                  ),
                 ),
               ),
             ),
@@ -50,7 +57,7 @@ returns-then-branch-clause-marks g c =
     let before = c.args.notes.now.marks.items in
     let told = c.in_ok-ask_row.ensures in
     let held = marks_along max graph (known_table c.args.caller.now.story) after rs ss before c.ask_row.ensures.later.falls told.before c.requires.marks in
-    let here = mark_of_row max graph after ss vertex dist c.row.result.now c.row.ensures.row (told.row c.if-branch.true) in
+    let here = mark_of_row max graph after ss vertex dist (row_of graph.arcs vertex) refl (told.row c.if-branch.true) in
     let marks = c.note.new.self.marks.items in
     subst (λ (v : Vec (Request g.row.P) Global). All (WillBeTrue max graph after v.items) marks) (sym c.note.ensures.requests)
     (noted (WillBeTrue max graph after ss) vertex dist before marks c.note.ensures.marks held here)

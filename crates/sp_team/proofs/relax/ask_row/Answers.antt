@@ -2,6 +2,7 @@ use Rattle.std.proofs.Common.{Vec, subst, arith}
 use Rattle.std.specs.Prelude.{All, OnOk}
 use Rattle.std.specs.declared.alloc.Global.{Global}
 use Rattle.sp_word.specs.Word.{max_dist}
+use Rattle.sp_paths.specs.Rows.{row_of}
 use Rattle.sp_offer.specs.Order.{lawful}
 use Rattle.sp_offer.specs.Story.{known_table}
 use Rattle.sp_team.specs.declared.relax.Request.{Request}
@@ -16,8 +17,11 @@ ask_few-is_asked-requires g c = (
   (
     c.requires.layout,
     (
-      c.requires.dist,
-      rows_tails g.row.P (max_dist g.row.P) c.args.dist (g.L.Lawful.allows c.args.table.now.law) c.args.row.now c.requires.allowed,
+      c.requires.vertex,
+      (
+        c.requires.dist,
+        rows_tails g.row.P (max_dist g.row.P) c.args.entry.dist (g.L.Lawful.allows c.args.table.now.law) (row_of c.args.graph.now.arcs c.args.entry.vertex) c.requires.allowed,
+      ),
     ),
   ),
 )
@@ -30,7 +34,7 @@ answer-requires g c = (
     (
       c.requires.layout,
       (
-        row_asked g.row.P (lawful g.row.P (g.L.Lawful.allows c.args.table.now.law)) (max_dist g.row.P) c.args.table.now.vertices c.args.row.now c.args.dist c.args.requests.now.items
+        row_asked g.row.P (lawful g.row.P (g.L.Lawful.allows c.args.table.now.law)) (max_dist g.row.P) c.args.table.now.vertices (row_of c.args.graph.now.arcs c.args.entry.vertex) c.args.entry.dist c.args.requests.now.items
             c.ask_few-is_asked.new.requests.items c.requires.arcs c.requires.allowed c.requires.requests (c.ask_few-is_asked.ensures.asked c.if-is_asked.true),
         c.requires.caller,
       ),
@@ -55,12 +59,12 @@ returns-in_ok-answer-clause-row g c = λ whole.
     let after = known_table c.answer.new.caller.story in
     let ss = c.ask_few-is_asked.new.requests.items in
     let none = c.answer.new.requests.items in
-    row_along max known after ss none c.args.dist c.args.row.now c.answer.ensures.later.falls (answered after ss none c.in_ok-answer.ensures.met)
-    (row_waits max known c.args.row.now c.args.dist c.args.requests.now.items ss (c.ask_few-is_asked.ensures.asked c.if-is_asked.true))
+    row_along max known after ss none c.args.entry.dist (row_of c.args.graph.now.arcs c.args.entry.vertex) c.answer.ensures.later.falls (answered after ss none c.in_ok-answer.ensures.met)
+    (row_waits max known (row_of c.args.graph.now.arcs c.args.entry.vertex) c.args.entry.dist c.args.requests.now.items ss (c.ask_few-is_asked.ensures.asked c.if-is_asked.true))
 
 pub returns-else-len-ge-MOST-clause-requests : goal.returns-else-len-ge-MOST-clause-requests
 returns-else-len-ge-MOST-clause-requests g c =
-    row_asked g.row.P (lawful g.row.P (g.L.Lawful.allows c.args.table.now.law)) (max_dist g.row.P) c.args.table.now.vertices c.args.row.now c.args.dist c.args.requests.now.items
+    row_asked g.row.P (lawful g.row.P (g.L.Lawful.allows c.args.table.now.law)) (max_dist g.row.P) c.args.table.now.vertices (row_of c.args.graph.now.arcs c.args.entry.vertex) c.args.entry.dist c.args.requests.now.items
     c.ask_few-is_asked.new.requests.items c.requires.arcs c.requires.allowed c.requires.requests (c.ask_few-is_asked.ensures.asked c.if-is_asked.true)
 
 pub returns-else-len-ge-MOST-clause-before : goal.returns-else-len-ge-MOST-clause-before
@@ -69,7 +73,7 @@ returns-else-len-ge-MOST-clause-before g c =
 
 pub returns-else-len-ge-MOST-clause-row : goal.returns-else-len-ge-MOST-clause-row
 returns-else-len-ge-MOST-clause-row g c = λ whole.
-    row_waits (max_dist g.row.P) (known_table c.args.caller.now.story) c.args.row.now c.args.dist c.args.requests.now.items c.ask_few-is_asked.new.requests.items (c.ask_few-is_asked.ensures.asked c.if-is_asked.true)
+    row_waits (max_dist g.row.P) (known_table c.args.caller.now.story) (row_of c.args.graph.now.arcs c.args.entry.vertex) c.args.entry.dist c.args.requests.now.items c.ask_few-is_asked.new.requests.items (c.ask_few-is_asked.ensures.asked c.if-is_asked.true)
 
 pub returns-else-is_asked-clause-before : goal.returns-else-is_asked-clause-before
 returns-else-is_asked-clause-before g c =

@@ -9,17 +9,17 @@ use Rattle.sp_team.proofs.Marks.{marks_still}
 use Rattle.sp_team.proofs.team.run_some.Goals as goal
 
 pub returns-in_err-relaxed-clause-later : goal.returns-in_err-relaxed-clause-later
-returns-in_err-relaxed-clause-later g c = later_along _ _ _ _ c.warm_vertices-arcs.ensures c.take_live.ensures.later
+returns-in_err-relaxed-clause-later g c = later_along _ _ _ _ c.warm_vertices-leading.ensures c.take_live.ensures.later
 
-pub returns-then-arcs-eq0-clause-later : goal.returns-then-arcs-eq0-clause-later
-returns-then-arcs-eq0-clause-later g c = later_along _ _ _ _ c.warm_vertices-arcs.ensures c.take_live.ensures.later
+pub returns-then-leading-eq0-clause-later : goal.returns-then-leading-eq0-clause-later
+returns-then-leading-eq0-clause-later g c = later_along _ _ _ _ c.warm_vertices-leading.ensures c.take_live.ensures.later
 
 pub end_bits-requires : goal.end_bits-requires
 end_bits-requires g c = subst (All (LeadsOn c.args.graph.now)) (sym c.deref.ensures.value) (λ k e low. (c.in_ok-relaxed.ensures.live k e low).0)
 
 pub relax_live-requires : goal.relax_live-requires
 relax_live-requires g c =
-    let later = later_along (lawful g.row.P (g.L.Lawful.allows c.args.table.now.law)) _ _ _ c.warm_vertices-arcs.ensures c.take_live.ensures.later in (
+    let later = later_along (lawful g.row.P (g.L.Lawful.allows c.args.table.now.law)) _ _ _ c.warm_vertices-leading.ensures c.take_live.ensures.later in (
       omega arith,
       (
         omega arith,
@@ -37,4 +37,4 @@ relax_live-requires g c =
     )
 
 pub returns-clause-later : goal.returns-clause-later
-returns-clause-later g c = later_along _ _ _ _ c.warm_vertices-arcs.ensures (later_along _ _ _ _ c.take_live.ensures.later c.relax_live.ensures.later)
+returns-clause-later g c = later_along _ _ _ _ c.warm_vertices-leading.ensures (later_along _ _ _ _ c.take_live.ensures.later c.relax_live.ensures.later)

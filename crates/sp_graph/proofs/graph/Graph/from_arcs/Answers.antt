@@ -15,4 +15,5 @@ invariant_of-result c =
       order = c.in_ok-all.ensures.order;
       index = c.in_ok-all.ensures.index;
       lengths = c.in_ok-all.ensures.lengths;
+      places = search rules;
     }
