@@ -1,8 +1,8 @@
 //! A file that receives a command's output instead of standard output.
-ghost use Rattle.std.specs.Prelude.{◌≡◌, ℕ, false, List, IfNone, IfOk, IfSome, OnErr, OnOk};
+ghost use Rattle.std.specs.Prelude.{◌≡◌, ℕ, false, List, IfNone, IfOk, IfSome, MatchOption, OnErr, OnOk};
 ghost use Rattle.clap.specs.Walk.{rule_of};
 ghost use Rattle.sp_command.specs.Rules.{output_rule};
-ghost use Rattle.sp_command.specs.Outputs.{IsBlank, OutputFiles, unknown_outputs, with_kept};
+ghost use Rattle.sp_command.specs.Outputs.{IsBlank, OutputFiles, unknown_outputs, with_begun, with_ended, with_kept};
 
 use crate::arguments::valued;
 use crate::inputs::Inputs;
@@ -34,15 +34,6 @@ pub trait Outputs: Inputs {
     /// The file with this name gets this path when it is kept.
     ghost is_for: { Self.Name → List ℕ → Type 0 } = { λ _ _. Unit {0} };
 
-    /// What is known of the last request to the system after the file with this name was begun.
-    ghost begins: { Self.Name → Self → Type 0 } = { λ _ _. Unit {0} };
-
-    /// What is known of the last request to the system after the file with this name got its path.
-    ghost keeps: { Self.Name → Self → Type 0 } = { λ _ _. Unit {0} };
-
-    /// What is known of the last request to the system after the file with this name was removed.
-    ghost removes: { Self.Name → Self → Type 0 } = { λ _ _. Unit {0} };
-
     /// Begins a file for this path, or returns `None` if it can't be created. Whatever the path held stays.
     fn create(
         &mut self,
@@ -54,25 +45,24 @@ pub trait Outputs: Inputs {
             (λ file. IsBlank (Self.Output.written file.1))) }
         ensures refused { IfOk result (λ made. IfNone made
             ((outputs self.old).takes path.now ≡ false)) }
-        ensures asked { IfOk result (λ made. IfSome made (λ file. begins file.0 self.new)) }
-        ensures kept { outputs self.new ≡ outputs self.old }
+        ensures begun { IfOk result (λ made. MatchOption made
+            (outputs self.new ≡ outputs self.old)
+            (λ _. outputs self.new ≡ with_begun (outputs self.old))) }
+        ensures none { OnErr result (outputs self.new ≡ outputs self.old) }
         ensures inputs { Self.files self.new ≡ Self.files self.old };
 
     /// Gives a file its path. If that fails, the file is removed, and whatever the path held stays.
     fn keep(&mut self, name: Self::Name, output: Self::Output) -> Result<(), WriteFault>
         ensures kept { OnOk result ((path : List ℕ) → is_for name path → outputs self.new
-            ≡ with_kept (outputs self.old) path (Self.Output.written output)) }
-        ensures unkept { OnErr result (outputs self.new ≡ outputs self.old) }
-        ensures asked { OnOk result (keeps name self.new) }
-        ensures removed { OnErr result (removes name self.new) }
+            ≡ with_kept (with_ended (outputs self.old)) path (Self.Output.written output)) }
+        ensures unkept { OnErr result (outputs self.new ≡ with_ended (outputs self.old)) }
         ensures refused { OnErr result ((path : List ℕ) → is_for name path
             → (outputs self.old).takes path ≡ false) }
         ensures inputs { Self.files self.new ≡ Self.files self.old };
 
     /// Removes a file. Whatever its path held stays.
     fn discard(&mut self, name: Self::Name, output: Self::Output)
-        ensures kept { outputs self.new ≡ outputs self.old }
-        ensures removed { removes name self.new }
+        ensures removed { outputs self.new ≡ with_ended (outputs self.old) }
         ensures inputs { Self.files self.new ≡ Self.files self.old };
 }
 

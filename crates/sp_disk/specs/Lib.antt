@@ -1,1 +1,2 @@
-pub mod LastRequest
+pub mod Found
+pub mod Made

@@ -1,31 +1,31 @@
 //! The files of the system.
+ghost use Rattle.std.specs.Prelude.{◌≡◌, Bool, Some, IfSome, not, ◌&&◌};
+ghost use Rattle.sp_command.specs.Scene.{IsOpened};
+ghost use Rattle.sp_disk.specs.Found.{Tells, files_of, id_of};
+
 use crate::noted::{FileNotes, Noted};
 use crate::screen::{Errors, Screen};
-use crate::system::LastRequest;
+use crate::status::FileStatus;
+use crate::system::System;
 use either::Either;
 use sp_command::{Encoding, Inputs, ProgressReport};
-use sp_device::OfRead;
+use sp_device::{OfRead, Read};
 use sp_word::Meter;
-use std::fs::Metadata;
-use std::io::{IsTerminal, Stderr, Stdin, Stdout};
-use std::os::unix::fs::MetadataExt;
+use std::io;
+use std::io::Stderr;
 use std::process::Process;
-use std::rt::{Clock, Files};
+use std::rt::Clock;
 use std::sync::Wait;
-use std::{fs, io};
 
-/// The files of the system, and standard input, whose path is `-`.
+/// The files of a system, and standard input, whose path is `-`.
 #[derive(Drop)]
-pub struct Disk<'a, R> {
+pub struct Disk<'a, R, S> {
     pub rt: &'a R,
-    pub stdin: Stdin,
-    pub stdout: Stdout,
+    pub system: S,
     pub stderr: Stderr,
     /// The process, which knows its number.
     pub process: Process,
     pub notes: &'a FileNotes,
-    /// The last request to the system about output files.
-    pub asked: LastRequest,
     /// Whether the output goes to a file instead of standard output.
     pub has_output: bool,
 }
@@ -33,7 +33,7 @@ pub struct Disk<'a, R> {
 // The path of standard input, if that is a file.
 const STDIN: &str = "/dev/stdin";
 
-impl<'a, R: Files + Eprint + Clock + Wait> Disk<'a, R> {
+impl<'a, R: Eprint + Clock + Wait, S> Disk<'a, R, S> {
     /// Returns standard error, as the screen that shows the progress of a run.
     pub fn screen(&self) -> Screen<'a, R> {
         Screen::new(self.rt, self.stderr, self.notes.watch())
@@ -43,41 +43,59 @@ impl<'a, R: Files + Eprint + Clock + Wait> Disk<'a, R> {
     pub fn standard_error(&self) -> Errors<'a, R> {
         Errors::new(self.screen(), self.stderr)
     }
+}
+
+// The file or the stream that an input is read from.
+type Input<'a, S> = OfRead<Noted<'a, Either<<S as System>::File, <S as System>::Stdin>>>;
+
+impl<'a, R, S: System> Disk<'a, R, S> {
+    // Returns what the system says about a regular file. Links are followed.
+    fn regular(&self, path: &str) -> Option<FileStatus>
+        ensures { Tells ((S.found self.now.system).id path.now) (id_of result) }
+    {
+        match self.system.status(path) {
+            Ok(status) => status,
+            Err(_) => None,
+        }
+    }
 
     // Returns the size of a file in bytes, if it is a regular file.
     fn size_of(&self, path: &str) -> Option<u64> {
-        Some(self.regular(path)?.len())
-    }
-
-    // What the system says about a regular file. Links are followed.
-    fn regular(&self, path: &str) -> Option<Metadata> {
-        let found = fs::metadata(self.rt, path).ok()?;
-        found.is_file().then_some(found)
+        Some(self.regular(path)?.size)
     }
 }
 
-impl<'a, R: Files + Eprint + Clock + Wait> Inputs for Disk<'a, R> {
-    type File = OfRead<Noted<'a, Either<R::File, Stdin>>>;
+impl<'a, R: Eprint + Clock + Wait, S: System> Inputs for Disk<'a, R, S> {
+    type File = Input<'a, S>;
+
+    ghost files = { λ disk. files_of (S.found disk.system) };
 
     fn open_input(&self, path: &str) -> Option<Self::File> {
-        let (file, path) = match path {
-            "-" => (Either::Right(self.stdin), STDIN),
-            _ => {
-                let file = self.notes.checked(fs::open(self.rt, path))?;
-                (Either::Left(file), path)
-            }
+        let (file, path) = if path == "-" {
+            (Either::Right(self.system.stdin()), STDIN)
+        } else {
+            let file = self.notes.checked(self.system.open(path))?;
+            (Either::Left(file), path)
         };
         let size = self.size_of(path);
         Some(OfRead::new(Noted::new(file, self.notes, size)))
     }
 
-    fn open_again(&self, path: &str) -> Option<Self::File> {
+    fn open_again(&self, path: &str) -> Option<Self::File>
+        ensures { IfSome result
+            (IsOpened ⟦<Input<'a, S> as Read>⟧ (files_of (S.found self.now.system)) path.now) }
+    {
         self.size_of(path)?;
         self.open_input(path)
     }
 
-    fn is_shown(&self) -> bool {
-        !self.has_output && self.stdout.is_terminal()
+    fn is_shown(&self) -> bool
+        ensures told { (is : Bool) → (S.found self.now.system).terminal ≡ Some is
+            → result ≡ (not self.now.has_output && is) }
+        ensures shown { (is : Bool) → (files_of (S.found self.now.system)).shown ≡ Some is
+            → result ≡ is }
+    {
+        !self.has_output && self.system.is_terminal()
     }
 
     fn is_same_file(&self, output: &str, input: &str) -> bool {
@@ -85,7 +103,7 @@ impl<'a, R: Files + Eprint + Clock + Wait> Inputs for Disk<'a, R> {
         let (Some(output), Some(input)) = (self.regular(output), self.regular(input)) else {
             return false;
         };
-        output.dev() == input.dev() && output.ino() == input.ino()
+        output.id.device == input.id.device && output.id.inode == input.id.inode
     }
 
     fn reason(&self) -> Option<io::Error> {

@@ -5,15 +5,21 @@
 #![tactic(auto)]
 
 mod disk;
+mod host;
 mod noted;
 mod output;
 mod place;
 mod screen;
+mod sink;
 mod stand;
+mod status;
 mod system;
 
 pub use disk::Disk;
+pub use host::{Host, HostDevice, HostPart};
 pub use noted::{FileNotes, Noted};
 pub use output::Output;
 pub use screen::{Errors, Screen, Watch};
-pub use system::LastRequest;
+pub use sink::{Sink, UnfinishedFile};
+pub use status::{FileId, FileStatus};
+pub use system::{Part, System, Target};

@@ -1,4 +1,7 @@
 //! Notes about files and streams of the system, taken while they are read and written.
+ghost use Rattle.std.specs.Prelude.{◌≡◌};
+ghost use Rattle.std.specs.Result.{result_ok};
+
 use crate::screen::Watch;
 use sp_command::Encoding;
 use std::cell::Cell;
@@ -26,7 +29,9 @@ impl FileNotes {
     }
 
     /// Returns the value of a successful result. If the system reported an error, notes it.
-    pub fn checked<T: Drop>(&self, answer: io::Result<T>) -> Option<T> {
+    pub fn checked<T: Drop>(&self, answer: io::Result<T>) -> Option<T>
+        ensures { result ≡ result_ok answer }
+    {
         match answer {
             Ok(value) => Some(value),
             Err(error) => {
@@ -68,7 +73,7 @@ const BEGINNING: usize = 6;
 /// A file or a stream. It notes the reason of each failure, and how the file begins.
 #[derive(Drop)]
 pub struct Noted<'a, T> {
-    inner: T,
+    pub(crate) inner: T,
     notes: &'a FileNotes,
     size: Option<u64>,
     // The first bytes that have been read, and their number. A reader may ask for a single byte at first.
@@ -78,7 +83,9 @@ pub struct Noted<'a, T> {
 
 impl<'a, T> Noted<'a, T> {
     /// Returns a file or a stream of which nothing has been read. It has this size in bytes, if the size is known.
-    pub fn new(inner: T, notes: &'a FileNotes, size: Option<u64>) -> Self {
+    pub(crate) fn new(inner: T, notes: &'a FileNotes, size: Option<u64>) -> Self
+        ensures { result.inner ≡ inner }
+    {
         Noted {
             inner,
             notes,
@@ -89,7 +96,9 @@ impl<'a, T> Noted<'a, T> {
     }
 
     // Notes how the file begins, until all bytes of its beginning have been read.
-    fn begin(&mut self, bytes: &[u8]) {
+    fn begin(&mut self, bytes: &[u8])
+        ensures { self.new.inner ≡ self.old.inner }
+    {
         if self.begun == BEGINNING {
             return;
         }
@@ -107,6 +116,8 @@ impl<'a, T> Noted<'a, T> {
 }
 
 impl<T: io::Read> io::Read for Noted<'_, T> {
+    ghost remaining = { λ noted. T.remaining noted.inner };
+
     fn read(&mut self, buf: &mut [u8]) -> io::Result<usize> {
         match self.inner.read(buf) {
             Ok(n) => {
@@ -122,6 +133,8 @@ impl<T: io::Read> io::Read for Noted<'_, T> {
 }
 
 impl<T: io::Write> io::Write for Noted<'_, T> {
+    ghost contents = { λ noted. T.contents noted.inner };
+
     fn write(&mut self, bytes: &[u8]) -> io::Result<usize> {
         match self.inner.write(bytes) {
             Ok(n) => Ok(n),

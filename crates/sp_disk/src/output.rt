@@ -1,108 +1,179 @@
 //! Output files.
-ghost use Rattle.std.specs.Prelude.{IfSome};
-ghost use Rattle.sp_disk.specs.LastRequest.{IsBegun, IsKept, IsRemoved};
+ghost use Rattle.std.specs.Prelude.{◌≡◌, ◌<◌, ◌≤◌, ◌+◌, ◌^◌, ℕ, true, false, List, IfNone, IfOk, IfSome, MatchOption, OnErr, OnOk, string_bytes};
+ghost use Rattle.sp_command.specs.Outputs.{IsBlank, with_begun, with_ended, with_kept};
+ghost use Rattle.sp_disk.specs.Found.{files_of};
+ghost use Rattle.sp_disk.specs.Made.{GoesTo, kept_in, one_gone, outputs_of, written_to};
 
 use crate::disk::Disk;
-use crate::noted::Noted;
-use crate::place::{BegunFile, Destination, UnfinishedFile};
+use crate::noted::{FileNotes, Noted};
+use crate::place::Destination;
 use crate::screen::Screen;
-use crate::system::{remove, rename};
-use either::Either;
+use crate::sink::{Sink, UnfinishedFile};
+use crate::system::{Part, System, Target};
 use sp_command::Outputs;
-use sp_device::{Failed, OfWrite, Write, WriteFault};
+use sp_device::{Failed, Write, WriteFault};
 use std::alloc::{AllocError, Global};
-use std::fs::{OpenFile, OpenOptions};
 use std::io;
-use std::io::{ErrorKind, Stdout};
+use std::io::ErrorKind;
 use std::random::RandomSource;
-use std::rt::{Clock, Files};
+use std::rt::Clock;
 use std::sync::Wait;
 
-/// A file whose flush waits until the disk holds everything that was written.
-#[derive(Drop)]
-struct Lasting<F>(F);
-
-impl<F: io::Write + OpenFile> io::Write for Lasting<F> {
-    fn write(&mut self, bytes: &[u8]) -> io::Result<usize> {
-        self.0.write(bytes)
-    }
-
-    fn flush(&mut self) -> io::Result<()> {
-        self.0.flush()?;
-        match self.0.sync_all() {
-            Err(error) if is_unknown_there(&error) => Ok(()),
-            done => done,
-        }
-    }
-}
-
-// Returns whether the file system doesn't support this call.
-fn is_unknown_there(error: &io::Error) -> bool {
-    matches!(
-        error.kind(),
-        ErrorKind::InvalidInput | ErrorKind::Unsupported
-    )
-}
-
-// A file or standard output, as a device.
-type Device<'a, F> = OfWrite<Noted<'a, Either<Lasting<F>, Stdout>>>;
+// The greatest total number of bytes that an output passes on.
+const LIMIT: u64 = 1 << 62;
 
 /// An output file that is being written, or standard output. Both have one type, so that the commands are compiled only
-/// once.
-pub struct Output<'a, R: Files> {
-    device: Device<'a, R::File>,
+/// once. It fails if the system does or takes none of the bytes given to it, and once 2^62 bytes have passed.
+pub struct Output<'a, R, S: System> {
+    sink: Noted<'a, Sink<S::Part, S::Device>>,
+    passed: u64,
+    failed: bool,
     screen: Screen<'a, R>,
+    ghost limit: { passed ≤ 2 ^ 62 },
 }
 
-impl<R: Files> Drop for Output<'_, R> {
+impl<R, S: System> Drop for Output<'_, R, S> {
     fn drop(self) {
         let Output {
-            device: _,
+            sink: _,
+            passed: _,
+            failed: _,
             screen: _,
         } = self;
     }
 }
 
-impl<'a, R: Files + Eprint + Clock + Wait> Write for Output<'a, R> {
-    ghost written = { λ d. ⟦<Device<'a, R::File> as Write>⟧.written d.device };
+impl<'a, R, S: System> Output<'a, R, S> {
+    // Returns an output to which nothing was written.
+    fn new(sink: Sink<S::Part, S::Device>, notes: &'a FileNotes, screen: Screen<'a, R>) -> Self
+        ensures sink { result.sink.inner ≡ sink }
+        ensures passed { result.passed ≡ 0 }
+        ensures going { result.failed ≡ false }
+    {
+        Output {
+            sink: Noted::new(sink, notes, None),
+            passed: 0,
+            failed: false,
+            screen,
+        }
+    }
 
-    ghost passed = { λ d. ⟦<Device<'a, R::File> as Write>⟧.passed d.device };
-
-    ghost has_failed = { λ d. ⟦<Device<'a, R::File> as Write>⟧.has_failed d.device };
-
-    fn write(&mut self, bytes: &[u8]) -> Result<usize, Failed> {
-        let count = self.device.write(bytes)?;
-        self.screen.see_written(&bytes[..count]);
-        Ok(count)
+    // Returns where the output goes, and whether it has failed.
+    fn into_sink(self) -> (Sink<S::Part, S::Device>, bool)
+        ensures sink { result.0 ≡ self.entry.sink.inner }
+        ensures failed { result.1 ≡ self.entry.failed }
+    {
+        let Output {
+            sink,
+            passed: _,
+            failed,
+            screen: _,
+        } = self;
+        (sink.inner, failed)
     }
 }
 
-impl<'a, R: Files + AllocGlobal + RandomSource + Clock + Eprint + Wait> Outputs for Disk<'a, R> {
-    type Output = Output<'a, R>;
+impl<'a, R: Eprint + Clock + Wait, S: System> Write for Output<'a, R, S> {
+    ghost written = { λ output. written_to S.Part.written S.Device.contents output.sink.inner };
 
-    // `None` means that the file is written directly.
-    type Name = Option<UnfinishedFile>;
+    ghost passed = { λ output. output.passed };
 
-    ghost begins = { λ name disk. IfSome name (λ part. IsBegun part disk.asked) };
+    ghost has_failed = { λ output. output.failed };
 
-    ghost keeps = { λ name disk. IfSome name (λ part. IsKept part disk.asked) };
+    fn write(&mut self, bytes: &[u8]) -> Result<usize, Failed> {
+        let most = passing(bytes.len(), self.passed);
+        if self.failed || most == 0 && !bytes.is_empty() {
+            self.failed = true;
+            return Err(Failed);
+        }
+        if bytes.is_empty() {
+            return Ok(0);
+        }
+        match io::Write::write(&mut self.sink, &bytes[..most]) {
+            Ok(n) if n > 0 => {
+                self.passed += n as u64;
+                self.screen.see_written(&bytes[..n]);
+                Ok(n)
+            }
+            _ => {
+                self.failed = true;
+                Err(Failed)
+            }
+        }
+    }
+}
 
-    ghost removes = { λ name disk. IfSome name (λ part. IsRemoved part disk.asked) };
+// Returns how many of these bytes may still pass.
+fn passing(len: usize, passed: u64) -> usize
+    requires { passed ≤ 2 ^ 62 }
+    ensures within { result ≤ len }
+    ensures limit { passed + result ≤ 2 ^ 62 }
+    ensures some { passed < 2 ^ 62 → 0 < len → 0 < result }
+{
+    let room = LIMIT - passed;
+    if len as u64 <= room {
+        len
+    } else {
+        room as usize
+    }
+}
+
+// Waits until the disk holds everything that was written, as far as the file system supports this.
+fn make_last<P: Part>(part: &mut P) -> io::Result<()>
+    ensures written { P.written part.new ≡ P.written part.old }
+    ensures lasts { OnOk result (P.lasts part.new ≡ true) }
+{
+    part.flush()?;
+    match part.sync() {
+        Ok(()) => Ok(()),
+        Err(error) => match error.kind() {
+            ErrorKind::InvalidInput | ErrorKind::Unsupported => Ok(()),
+            _ => Err(error),
+        },
+    }
+}
+
+impl<'a, R: RandomSource + Clock + Eprint + Wait, S: System> Outputs for Disk<'a, R, S> {
+    type Output = Output<'a, R, S>;
+
+    // The path that was given for the file.
+    type Name = String;
+
+    ghost outputs = { λ disk. outputs_of (S.made disk.system) };
+
+    ghost is_for = { λ name path. string_bytes name ≡ path };
 
     fn create(
         &mut self,
         alloc: Global,
         path: &str,
-    ) -> Result<Option<(Self::Name, Self::Output)>, AllocError> {
+    ) -> Result<Option<(Self::Name, Self::Output)>, AllocError>
+        ensures opened { IfOk result (λ made. IfSome made
+            (λ file. GoesTo S.path_of file.1.sink.inner path.now)) }
+        ensures named { IfOk result (λ made. IfSome made
+            (λ file. string_bytes file.0 ≡ path.now)) }
+        ensures blank { IfOk result (λ made. IfSome made
+            (λ file. IsBlank (⟦<Output<'a, R, S> as Write>⟧.written file.1))) }
+        ensures refused { IfOk result (λ made. IfNone made
+            ((outputs_of (S.made self.old.system)).takes path.now ≡ false)) }
+        ensures begun { IfOk result (λ made. MatchOption made
+            (outputs_of (S.made self.new.system) ≡ outputs_of (S.made self.old.system))
+            (λ _. outputs_of (S.made self.new.system)
+            ≡ with_begun (outputs_of (S.made self.old.system)))) }
+        ensures none { OnErr result (outputs_of (S.made self.new.system)
+            ≡ outputs_of (S.made self.old.system)) }
+        ensures inputs { files_of (S.found self.new.system) ≡ files_of (S.found self.old.system) }
+    {
         self.has_output = true;
-        let Some(destination) = Destination::of(self.rt, alloc, path)? else {
-            return Ok(self.straight(path).map(|output| (None, output)));
+        let name = String::from_str(alloc, path)?;
+        let Some(destination) = Destination::of(&self.system, alloc, path)? else {
+            return match self.notes.checked(self.system.open_device(path)) {
+                Some(device) => Ok(Some((name, self.output(Sink::Device(device))))),
+                None => Ok(None),
+            };
         };
-        match destination.begin(self.rt, alloc, self.process) {
-            Ok(BegunFile { file, part, asked }) => {
-                self.asked = asked;
-                Ok(Some((Some(part), self.output(Either::Left(Lasting(file))))))
-            }
+        match destination.begin(self.rt, &mut self.system, alloc, self.process) {
+            Ok(file) => Ok(Some((name, self.output(Sink::Part(file))))),
             Err(error) if error.kind() == ErrorKind::OutOfMemory => Err(AllocError),
             Err(error) => {
                 self.notes.failed(error);
@@ -111,51 +182,92 @@ impl<'a, R: Files + AllocGlobal + RandomSource + Clock + Eprint + Wait> Outputs 
         }
     }
 
-    fn keep(&mut self, name: Self::Name, output: Self::Output) -> Result<(), WriteFault> {
-        let Some(part) = name else {
-            return Ok(());
-        };
-        let mut output = output;
-        // Without this, a crash of the system could leave a file with this name that lacks some of its text.
-        let is_whole = output.device.flush().is_ok();
-        if is_whole {
-            match rename(self.rt, &part) {
-                Ok(asked) => {
-                    self.asked = asked;
-                    return Ok(());
+    fn keep(&mut self, name: Self::Name, output: Self::Output) -> Result<(), WriteFault>
+        ensures placed { OnOk result (S.made self.new.system
+            ≡ kept_in S.Part.written S.Device.contents output.entry.sink.inner (string_bytes name)
+            (S.made self.old.system)) }
+        ensures kept { OnOk result ((path : List ℕ) → string_bytes name ≡ path
+            → outputs_of (S.made self.new.system)
+            ≡ with_kept (with_ended (outputs_of (S.made self.old.system))) path
+            (⟦<Output<'a, R, S> as Write>⟧.written output.entry)) }
+        ensures sound { OnOk result
+            (⟦<Output<'a, R, S> as Write>⟧.has_failed output.entry ≡ false) }
+        ensures gone { OnErr result (S.made self.new.system ≡ one_gone (S.made self.old.system)) }
+        ensures unkept { OnErr result (outputs_of (S.made self.new.system)
+            ≡ with_ended (outputs_of (S.made self.old.system))) }
+        ensures refused { OnErr result ((path : List ℕ) → string_bytes name ≡ path
+            → (outputs_of (S.made self.old.system)).takes path ≡ false) }
+        ensures inputs { files_of (S.found self.new.system) ≡ files_of (S.found self.old.system) }
+    {
+        let (sink, has_failed) = output.into_sink();
+        match sink {
+            Sink::Part(file) if !has_failed => self.keep_part(name, file),
+            Sink::Device(device) if !has_failed => {
+                match self.notes.checked(self.system.close(device, &name)) {
+                    Some(()) => Ok(()),
+                    None => Err(WriteFault),
                 }
-                Err(error) => self.notes.failed(error),
+            }
+            sink => {
+                self.remove(sink);
+                Err(WriteFault)
             }
         }
-        self.asked = remove(self.rt, &part);
-        Err(WriteFault)
     }
 
-    fn discard(&mut self, name: Self::Name, _output: Self::Output) {
-        if let Some(part) = name {
-            self.asked = remove(self.rt, &part);
-        }
+    fn discard(&mut self, _name: Self::Name, output: Self::Output) {
+        let (sink, _) = output.into_sink();
+        self.remove(sink);
     }
 }
 
-impl<'a, R: Files + Eprint + Clock + Wait> Disk<'a, R> {
+impl<'a, R: Eprint + Clock + Wait, S: System> Disk<'a, R, S> {
     /// Returns standard output, before its first byte.
-    pub fn standard_output(&self, stdout: Stdout) -> Output<'a, R> {
-        self.output(Either::Right(stdout))
+    pub fn standard_output(&self) -> Output<'a, R, S> {
+        self.output(Sink::Device(self.system.stdout()))
     }
 
-    // Opens something that no other file can replace, such as a device or a pipe.
-    fn straight(&self, path: &str) -> Option<Output<'a, R>> {
-        let mut options = OpenOptions::new();
-        options.write(true).truncate(true);
-        let file = self.notes.checked(options.open(self.rt, path))?;
-        Some(self.output(Either::Left(Lasting(file))))
+    fn output(&self, sink: Sink<S::Part, S::Device>) -> Output<'a, R, S>
+        ensures { result.sink.inner ≡ sink }
+    {
+        Output::new(sink, self.notes, self.screen())
+    }
+}
+
+impl<R, S: System> Disk<'_, R, S> {
+    // Lets a file take its place. If that fails, the file is removed.
+    fn keep_part(&mut self, name: String, file: UnfinishedFile<S::Part>) -> Result<(), WriteFault>
+        ensures placed { OnOk result (S.made self.new.system
+            ≡ kept_in S.Part.written S.Device.contents (Sink.Part file) (string_bytes name)
+            (S.made self.old.system)) }
+        ensures unkept { OnErr result (S.made self.new.system ≡ one_gone (S.made self.old.system)) }
+        ensures found { S.found self.new.system ≡ S.found self.old.system }
+    {
+        let UnfinishedFile { mut part, place } = file;
+        let target = Target { path: name, place };
+        // Without this, a crash of the system could leave a file with this name that lacks some of its text.
+        let kept = match make_last(&mut part) {
+            Ok(()) => self.system.rename(&part, &target),
+            Err(error) => Err(error),
+        };
+        match kept {
+            Ok(()) => Ok(()),
+            Err(error) => {
+                self.notes.failed(error);
+                self.system.remove(part);
+                Err(WriteFault)
+            }
+        }
     }
 
-    fn output(&self, device: Either<Lasting<R::File>, Stdout>) -> Output<'a, R> {
-        Output {
-            device: OfWrite::new(Noted::new(device, self.notes, None)),
-            screen: self.screen(),
+    // Removes a file that isn't complete. What was written directly stays.
+    fn remove(&mut self, sink: Sink<S::Part, S::Device>)
+        ensures gone { S.made self.new.system ≡ one_gone (S.made self.old.system) }
+        ensures found { S.found self.new.system ≡ S.found self.old.system }
+    {
+        match sink {
+            Sink::Part(file) => self.system.remove(file.part),
+            Sink::Device(device) => self.system.abandon(device),
         }
     }
 }

@@ -1,17 +1,18 @@
 //! The path for an output file, and the temporary file that is written until it is complete.
-ghost use Rattle.std.specs.Prelude.{◌≡◌, IfOk};
-ghost use Rattle.sp_disk.specs.LastRequest.{IsBegun};
+ghost use Rattle.std.specs.Prelude.{◌≡◌, IfOk, OnErr, OnOk};
+ghost use Rattle.sp_command.specs.Outputs.{IsBlank};
+ghost use Rattle.sp_disk.specs.Made.{one_more};
 
-use crate::system::{LastRequest, make};
+use crate::sink::UnfinishedFile;
+use crate::status::FileStatus;
+use crate::system::{Part, System};
 use std::alloc::{AllocError, Global};
-use std::fs::{Metadata, OpenFile};
+use std::io;
 use std::io::ErrorKind;
-use std::os::unix::fs::{MetadataExt, PermissionsExt, lchown};
 use std::path::PathBuf;
 use std::process::{self, Process};
 use std::random::RandomSource;
-use std::rt::{Clock, Files};
-use std::{fs, io};
+use std::rt::Clock;
 
 // The system follows at most this many links.
 const MOST_LINKS: usize = 40;
@@ -31,50 +32,35 @@ const OWN_RIGHTS: u32 = 0o700;
 #[derive(Drop)]
 pub struct Destination {
     path: String,
-    replaced: Option<Metadata>,
-}
-
-/// A file that has a name of its own until it is complete, and the path that it then takes.
-#[derive(Drop)]
-pub struct UnfinishedFile {
-    pub(crate) path: String,
-    pub(crate) place: String,
-}
-
-/// A part that was begun: its file, and the request to the system that made it.
-#[derive(Drop)]
-pub struct BegunFile<F> {
-    pub(crate) file: F,
-    pub(crate) part: UnfinishedFile,
-    pub(crate) asked: LastRequest,
+    replaced: Option<FileStatus>,
 }
 
 impl Destination {
     /// Returns where a path leads. The result is `None` if something other than a regular file is there, or if no file
     /// can be there.
-    pub fn of<R: Files + AllocGlobal>(
-        rt: &R,
+    pub fn of<S: System>(
+        system: &S,
         alloc: Global,
         path: &str,
     ) -> Result<Option<Self>, AllocError> {
-        match fs::metadata(rt, path) {
-            Ok(found) if found.is_file() => Self::of_file(rt, alloc, path, found),
-            Err(error) if error.kind() == ErrorKind::NotFound => Self::missing(rt, alloc, path),
+        match system.status(path) {
+            Ok(Some(found)) => Self::of_file(system, alloc, path, found),
+            Err(error) if error.kind() == ErrorKind::NotFound => Self::missing(system, alloc, path),
             _ => Ok(None),
         }
     }
 
     // Returns where an existing file is, after all links.
-    fn of_file<R: Files + AllocGlobal>(
-        rt: &R,
+    fn of_file<S: System>(
+        system: &S,
         alloc: Global,
         path: &str,
-        found: Metadata,
+        found: FileStatus,
     ) -> Result<Option<Self>, AllocError> {
-        let path = match fs::canonicalize(rt, path) {
+        let path = match system.canonicalize(path) {
             Ok(path) => path.into_string(),
             Err(error) if error.kind() == ErrorKind::OutOfMemory => return Err(AllocError),
-            Err(_) if is_link(rt, path) => return Ok(None),
+            Err(_) if system.is_link(path) => return Ok(None),
             Err(_) => String::from_str(alloc, path)?,
         };
         let replaced = Some(found);
@@ -83,14 +69,14 @@ impl Destination {
 
     // Returns where a missing file goes. If the path is a link to a missing file, the file goes where the link leads,
     // so that the link stays.
-    fn missing<R: Files + AllocGlobal>(
-        rt: &R,
+    fn missing<S: System>(
+        system: &S,
         alloc: Global,
         path: &str,
     ) -> Result<Option<Self>, AllocError> {
         let mut place = PathBuf::from_str(alloc, path)?;
         for _ in 0..MOST_LINKS {
-            match fs::read_link(rt, place.as_str()) {
+            match system.read_link(place.as_str()) {
                 Ok(next) => {
                     place.pop();
                     place.push(next)?;
@@ -100,7 +86,7 @@ impl Destination {
             }
         }
         let path = place.into_string();
-        if path.is_empty() || path.ends_with('/') || is_link(rt, &path) {
+        if path.is_empty() || path.ends_with('/') || system.is_link(&path) {
             return Ok(None);
         }
         let replaced = None;
@@ -109,31 +95,32 @@ impl Destination {
 
     /// Makes a file in the folder of the destination, with a name that isn't in use. Only users who may read the file
     /// that it replaces may read it.
-    pub fn begin<R: Files + AllocGlobal + RandomSource + Clock>(
+    pub fn begin<R: RandomSource + Clock, S: System>(
         self,
         rt: &R,
+        system: &mut S,
         alloc: Global,
         process: Process,
-    ) -> io::Result<BegunFile<R::File>>
-        ensures begun { IfOk result (λ begun. IsBegun begun.part begun.asked) }
-        ensures place { IfOk result (λ begun. begun.part.place ≡ self.path) }
+    ) -> io::Result<UnfinishedFile<S::Part>>
+        ensures place { IfOk result (λ file. file.place ≡ self.path) }
+        ensures blank { IfOk result (λ file. IsBlank (S.Part.written file.part)) }
+        ensures begun { OnOk result (S.made system.new ≡ one_more (S.made system.old)) }
+        ensures none { OnErr result (S.made system.new ≡ S.made system.old) }
+        ensures found { S.found system.new ≡ S.found system.old }
     {
         let mode = match &self.replaced {
-            Some(replaced) => replaced.mode() & OWN_RIGHTS,
+            Some(replaced) => replaced.mode & OWN_RIGHTS,
             None => NEW_RIGHTS,
         };
-        let mut part = UnfinishedFile {
-            path: String::new(alloc),
-            place: self.path,
-        };
         for _ in 0..MOST_NAMES {
-            part.path = part.name(rt, alloc, process)?;
-            match make(rt, &part, mode) {
-                Ok((file, asked)) => {
+            let path = part_name(rt, alloc, process, &self.path)?;
+            match system.make(path, mode) {
+                Ok(part) => {
                     if let Some(replaced) = &self.replaced {
-                        take_after(rt, &file, &part.path, replaced);
+                        take_after(system, &part, replaced);
                     }
-                    return Ok(BegunFile { file, part, asked });
+                    let place = self.path;
+                    return Ok(UnfinishedFile { part, place });
                 }
                 Err(error) if error.kind() == ErrorKind::AlreadyExists => {}
                 Err(error) => return Err(error),
@@ -143,31 +130,21 @@ impl Destination {
     }
 }
 
-impl UnfinishedFile {
-    // Returns a name in the same folder. It contains the number of the process, which distinguishes it from the names
-    // of other processes.
-    fn name<R: RandomSource + Clock>(
-        &self,
-        rt: &R,
-        alloc: Global,
-        process: Process,
-    ) -> io::Result<String> {
-        let (folder, slash) = match self.place.rsplit_once('/') {
-            Some((folder, _)) => (folder, "/"),
-            None => ("", ""),
-        };
-        let id = process::id(process);
-        let digits = digits(rt)?;
-        Ok(format!(in alloc; "{folder}{slash}.spt-{id}-{digits:016x}.part")?)
-    }
-}
-
-// Returns whether the path itself is a link.
-fn is_link<R: Files>(rt: &R, path: &str) -> bool {
-    match fs::symlink_metadata(rt, path) {
-        Ok(found) => found.is_symlink(),
-        Err(_) => false,
-    }
+// Returns a name in the folder of a place. It contains the number of the process, which distinguishes it from the names
+// of other processes.
+fn part_name<R: RandomSource + Clock>(
+    rt: &R,
+    alloc: Global,
+    process: Process,
+    place: &str,
+) -> io::Result<String> {
+    let (folder, slash) = match place.rsplit_once('/') {
+        Some((folder, _)) => (folder, "/"),
+        None => ("", ""),
+    };
+    let id = process::id(process);
+    let digits = digits(rt)?;
+    Ok(format!(in alloc; "{folder}{slash}.spt-{id}-{digits:016x}.part")?)
 }
 
 // Returns a number that another run has only by chance.
@@ -182,29 +159,25 @@ fn digits<R: RandomSource + Clock>(rt: &R) -> io::Result<u64> {
 
 // Gives a new file the owner, the group and the rights of the file that it replaces, as far as the user may do so, and
 // no further rights.
-fn take_after<R: Files>(rt: &R, file: &R::File, path: &str, replaced: &Metadata) {
-    let mut rights = replaced.mode() & RIGHTS;
-    if !has_group_of(rt, file, path, replaced) {
+fn take_after<S: System>(system: &S, part: &S::Part, replaced: &FileStatus) {
+    let mut rights = replaced.mode & RIGHTS;
+    if !has_group_of(system, part, replaced) {
         // Members of the old group now count as others, and members of the new group counted as others before.
         let shared = rights >> 3 & rights & 0o007;
         rights = rights & OWN_RIGHTS | shared << 3 | shared;
     }
-    if let Ok(own) = file.metadata() {
-        let mut permissions = own.permissions();
-        permissions.set_mode(rights);
-        let _ = file.set_permissions(permissions);
-    }
+    let _ = part.set_mode(rights);
 }
 
 // Gives a new file the owner and the group of another, as far as the user may do so, and returns whether it has that
 // group.
-fn has_group_of<R: Files>(rt: &R, file: &R::File, path: &str, replaced: &Metadata) -> bool {
-    let (owner, group) = (Some(replaced.uid()), Some(replaced.gid()));
-    if lchown(rt, path, owner, group).is_err() {
-        let _ = lchown(rt, path, None, group);
+fn has_group_of<S: System>(system: &S, part: &S::Part, replaced: &FileStatus) -> bool {
+    let (owner, group) = (Some(replaced.owner), Some(replaced.group));
+    if system.chown(part, owner, group).is_err() {
+        let _ = system.chown(part, None, group);
     }
-    match file.metadata() {
-        Ok(own) => own.gid() == replaced.gid(),
+    match part.status() {
+        Ok(own) => own.group == replaced.group,
         Err(_) => false,
     }
 }

@@ -154,6 +154,7 @@ where
 }
 
 // Runs a command, with its output in a file that gets its name once the command is done.
+#[tactic(auto, using(crate::proofs::Begun::ended_begun))]
 fn run_into<C, R: Threads + Wait + Sync, F: Outputs>(
     rt: &R,
     alloc: Global,

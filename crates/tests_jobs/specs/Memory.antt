@@ -21,4 +21,4 @@ kept_of file = record { path = string_bytes file.path; text = Some file.output.t
 
 -- The files that were kept are known, with their texts. No file is kept for certain, since memory may be refused.
 abbrev pub outputs_of : List KeptFile → OutputFiles
-outputs_of kept = record { kept = Some (map kept_of kept); takes = λ path. false }
+outputs_of kept = record { kept = Some (map kept_of kept); begun = None; takes = λ path. false }

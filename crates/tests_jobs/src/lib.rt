@@ -5,9 +5,11 @@
 
 mod memory;
 mod stored;
+mod system;
 
 pub use memory::{KeptFile, Memory};
 pub use stored::StoredFile;
+pub use system::{CompleteFile, MemoryDevice, MemoryPart, MemorySystem};
 
 #[cfg(test)]
 mod batches;
