@@ -25,9 +25,9 @@ const STRETCH: usize = 64;
 // Fewer entries than this are processed one by one.
 const FEW: usize = 8;
 
-// The words of fewer vertices than this fit in a core's own cache, so that reads hardly wait: all entries are then processed one
+// The words of fewer vertices than this fit in the caches of a core, so that reads hardly wait: all entries are then processed one
 // by one.
-const FAR: usize = 131_072;
+const FAR: usize = 32_768;
 
 // At most this many arcs are relaxed together.
 const MOST: usize = 256;
@@ -343,8 +343,9 @@ fn relax_some<T: Table<P>, const P: u32>(
     if entries.len() < FEW {
         return relax_each(graph, entries, table, bins);
     }
-    // Where rows are kept in places, taking the vertices reads all that relaxing needs.
-    if !graph.has_places() && count_live(graph, table.words(), entries) == 0 {
+    // The vertices are counted before they are taken, since counting only reads. Taking them writes each vertex to a place that
+    // depends on the words read before, and on many processors no later read begins while the place of a write isn't known.
+    if count_live(graph, table.words(), entries) == 0 {
         return Ok(());
     }
     let BatchBuffers { vertices, arcs } = batch;
