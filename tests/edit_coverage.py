@@ -31,6 +31,7 @@ OF_THE_SYSTEM = "of the files that the system keeps nothing is known, so every b
 OF_TESTS = "it makes what tests run on, which tell whether it is right"
 # by the path of a function, with its crate
 EXCEPTIONS = {
+    "sp_disk::errors::Errors::stream": OF_A_FIELD,
     "sp_disk::host::Host::close": OF_THE_SYSTEM,
     "sp_disk::host::Host::make": OF_THE_SYSTEM,
     "sp_disk::host::Host::open": OF_THE_SYSTEM,
@@ -38,11 +39,15 @@ EXCEPTIONS = {
     "sp_disk::host::Host::remove": OF_THE_SYSTEM,
     "sp_disk::host::Host::rename": OF_THE_SYSTEM,
     "sp_disk::host::Host::status": OF_THE_SYSTEM,
+    "sp_disk::host::Host::stderr": OF_THE_SYSTEM,
     "sp_disk::host::Host::stdin": OF_THE_SYSTEM,
+    "sp_disk::host::Host::stdout": OF_THE_SYSTEM,
+    "sp_disk::host::Host::words": OF_THE_SYSTEM,
     "sp_disk::host::HostDevice::write": OF_THE_SYSTEM,
     "sp_disk::host::HostPart::flush": OF_THE_SYSTEM,
     "sp_disk::host::HostPart::sync": OF_THE_SYSTEM,
     "sp_disk::host::HostPart::write": OF_THE_SYSTEM,
+    "sp_disk::output::Output::device": OF_TESTS,
     "sp_phase::store::Store::graph": OF_A_FIELD,
     "sp_phase::store::Store::table": OF_A_FIELD,
     "tests_samples::arcs_of": OF_TESTS,

@@ -1,5 +1,5 @@
 //! The environment of a command's job: the files that its words name, and the listener for its progress.
-ghost use Rattle.std.specs.Prelude.{◌≡◌, ℕ, true, false, List, Some, IfOk, IfErr, codes};
+ghost use Rattle.std.specs.Prelude.{◌≡◌, ℕ, true, false, List, Some, IfOk, IfErr, OnOk, codes};
 ghost use Rattle.sp_command.specs.Causes.{StaysClosed};
 ghost use Rattle.sp_command.specs.Scene.{IsOpened};
 ghost use Rattle.sp_command.specs.declared.faults.Fault.TheVariants.{CannotOpen};
@@ -73,6 +73,7 @@ impl<'a, F: Inputs> CommandContext<'a, F> {
             (IsOpened ⟦<Watched<'static, 'static, F::File, F> as Read>⟧
             (F.files self.now.files.now) path.now) }
         ensures closed { IfErr result (StaysClosed (F.files self.now.files.now) kind path.now) }
+        ensures present { OnOk result ((F.files self.now.files.now).absent path.now ≡ false) }
     {
         let file = kind.open(self.files, path)?;
         Ok(Watched::new(file, kind, self.reporter))
@@ -85,6 +86,8 @@ impl<'a, F: Inputs> CommandContext<'a, F> {
             (F.files self.now.files.now) self.now.graph.now) }
         ensures closed { IfErr result
             (StaysClosed (F.files self.now.files.now) FileKind.Graph self.now.graph.now) }
+        ensures present { OnOk result
+            ((F.files self.now.files.now).absent self.now.graph.now ≡ false) }
     {
         Ok(Peeked::new(self.open(FileKind::Graph, self.graph)?))
     }
@@ -101,6 +104,8 @@ impl<'a, F: Inputs> CommandContext<'a, F> {
         ensures closed { IfErr result (λ fault. (fault ≡ CannotOpen kind) × ((path : List ℕ)
             × (path_of list.now ≡ Some path)
             × ((F.files self.now.files.now).opens path ≡ false))) }
+        ensures present { OnOk result ((path : List ℕ) → path_of list.now ≡ Some path
+            → (F.files self.now.files.now).absent path ≡ false) }
     {
         match list {
             Sources::File(path) => Ok(Listing::InText(self.open(kind, path)?, None)),

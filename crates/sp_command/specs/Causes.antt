@@ -1,5 +1,5 @@
 -- What brings each fault about.
-use Rattle.std.specs.Prelude.{◌≡◌, ◌≢◌, ◌⊎◌, ℕ, true, false, List, Option, Some, codes}
+use Rattle.std.specs.Prelude.{◌≡◌, ◌≢◌, ◌⊎◌, ℕ, true, false, List, [], ◌∷◌, Option, Some, codes}
 use Rattle.sp_device.specs.Failing.{Never}
 use Rattle.sp_text.specs.declared.faults.DimacsError.{DimacsError}
 use Rattle.sp_text.specs.declared.faults.Kind.TheVariants as kind
@@ -15,9 +15,29 @@ use Rattle.sp_command.specs.Scene.{Files, Scene}
 abbrev pub Paths : Type 0
 Paths = FileKind → Option (List ℕ)
 
--- The command has a file of this kind, which isn't opened for certain.
+-- A command opens its files in one order, and these kinds come before this one: the graph is opened first, and the sources
+-- before the targets.
+abbrev pub opened_before : FileKind → List FileKind
+opened_before role.Graph = []
+opened_before role.Sources = role.Graph ∷ []
+opened_before role.Targets = role.Graph ∷ role.Sources ∷ []
+opened_before role.Pairs = role.Graph ∷ []
+opened_before role.Tree = role.Graph ∷ []
+opened_before role.Replay = []
+opened_before role.Offers = []
+
+-- The command's file of this kind, if it has one, isn't absent.
+abbrev pub IsPresent : Paths → Files → FileKind → Type 0
+IsPresent paths files file = (path : List ℕ) → paths file ≡ Some path → files.absent path ≡ false
+
+-- No file of the command is absent that is of one of these kinds.
+abbrev pub ArePresent : Paths → Files → List FileKind → Type 0
+ArePresent paths files [] = Unit {0}
+ArePresent paths files (file ∷ more) = IsPresent paths files file × ArePresent paths files more
+
+-- The command has a file of this kind, which isn't opened for certain. No file that it opens before is absent.
 abbrev pub MayStayClosed : Paths → Files → FileKind → Type 0
-MayStayClosed paths files file = (path : List ℕ) × (paths file ≡ Some path) × (files.opens path ≡ false)
+MayStayClosed paths files file = (path : List ℕ) × (paths file ≡ Some path) × (files.opens path ≡ false) × ArePresent paths files (opened_before file)
 
 -- The command has a file of this kind. If the fault is that its device failed, then that device may fail.
 abbrev pub MayBeRefused : Paths → Files → FileKind → DimacsError → Type 0
@@ -61,3 +81,7 @@ IsBorneOut paths own s other = own other
 -- A file of this kind, with this path, wasn't opened, and nothing says that it is.
 abbrev pub StaysClosed : Files → FileKind → (path : List ℕ) → Fault → Type 0
 StaysClosed files file path why = (why ≡ fault.CannotOpen file) × (files.opens path ≡ false)
+
+-- The same, after a file of another path that isn't absent.
+abbrev pub StaysClosedAfter : Files → (first : List ℕ) → FileKind → (path : List ℕ) → Fault → Type 0
+StaysClosedAfter files first file path why = StaysClosed files file path why × (files.absent first ≡ false)

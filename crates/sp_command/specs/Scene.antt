@@ -7,19 +7,21 @@ use Rattle.sp_command.specs.declared.faults.Fault.{Fault}
 
 -- ## Files
 
--- For each path, the files have the text of its file, if that is known; whether the file is opened for certain; and
--- when its device may fail. They have whether the output of a command goes to a terminal, if that is known; and for the path
--- of an output and that of an input, whether both lead to one regular file, if that is known.
+-- For each path, the files have the text of its file, if that is known; whether the file is opened for certain, or is absent,
+-- so that it is certain not to be opened; and when its device may fail. They have whether the output of a command goes to a
+-- terminal, if that is known; and for the path of an output and that of an input, whether both lead to one regular file, if that
+-- is known.
 pub record Files : Type 0 where
   pub text : List ℕ → Option (List ℕ)
   pub opens : List ℕ → Bool
+  pub absent : List ℕ → Bool
   pub failing : List ℕ → Failing
   pub shown : Option Bool
   pub same : (output input : List ℕ) → Option Bool
 
 -- Of the files of a system nothing is known.
 abbrev pub unknown_files : Files
-unknown_files = record { text = λ path. None; opens = λ path. false; failing = λ path. Anytime; shown = None; same = λ output input. None }
+unknown_files = record { text = λ path. None; opens = λ path. false; absent = λ path. false; failing = λ path. Anytime; shown = None; same = λ output input. None }
 
 -- An opened file gives the text of its path, if that text is known. It hasn't failed, and fails only as files of that
 -- path do.

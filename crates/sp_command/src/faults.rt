@@ -1,7 +1,7 @@
 //! The faults that stop a command, and the exit statuses.
-ghost use Rattle.std.specs.Prelude.{◌≡◌, ◌≤◌, ◌⊎◌, false, IfOk, IfErr, codes};
+ghost use Rattle.std.specs.Prelude.{◌≡◌, ◌≤◌, ◌⊎◌, false, IfOk, IfErr, OnOk, codes};
 ghost use Rattle.sp_command.specs.Faults.{code_of, is_done, status_of};
-ghost use Rattle.sp_command.specs.Causes.{StaysClosed};
+ghost use Rattle.sp_command.specs.Causes.{StaysClosed, StaysClosedAfter};
 ghost use Rattle.sp_command.specs.Lines.{place_of, word_of};
 ghost use Rattle.sp_command.specs.Scene.{IsOpened};
 ghost use Rattle.sp_command.specs.declared.faults.Fault.TheVariants.{CannotOpen, Input, InputTwice, Memory, WriteFailed};
@@ -59,6 +59,7 @@ impl FileKind {
     pub fn open<F: Inputs>(self, files: &F, path: &str) -> Result<F::File, Fault>
         ensures opened { IfOk result (IsOpened F.File.Read (F.files files.now) path.now) }
         ensures closed { IfErr result (StaysClosed (F.files files.now) self path.now) }
+        ensures present { OnOk result ((F.files files.now).absent path.now ≡ false) }
     {
         match files.open_input(path) {
             Some(file) => Ok(file),
@@ -82,7 +83,9 @@ impl FileKind {
             (λ fault. fault ≡ InputTwice → (graph.now ≡ codes "-") × (path.now ≡ codes "-")) }
         ensures closed { IfErr result (λ fault. (fault ≡ InputTwice)
             ⊎ (StaysClosed (F.files files.now) FileKind.Graph graph.now fault
-            ⊎ StaysClosed (F.files files.now) self path.now fault)) }
+            ⊎ StaysClosedAfter (F.files files.now) graph.now self path.now fault)) }
+        ensures present { OnOk result (((F.files files.now).absent graph.now ≡ false)
+            × ((F.files files.now).absent path.now ≡ false)) }
     {
         if graph == "-" && path == "-" {
             return Err(Fault::InputTwice);

@@ -1,5 +1,5 @@
 //! The files of a command line, and the reports of progress.
-ghost use Rattle.std.specs.Prelude.{◌≡◌, Bool, Some, true, false, IfNone, IfSome};
+ghost use Rattle.std.specs.Prelude.{◌≡◌, Bool, Some, true, false, IfNone, IfSome, OnSome};
 ghost use Rattle.sp_command.specs.Scene.{Files, IsOpened, unknown_files};
 
 use crate::hints::Encoding;
@@ -20,7 +20,8 @@ pub trait Inputs {
     /// read from its current position.
     fn open_input(&self, path: &str) -> Option<Self::File>
         ensures given { IfSome result (IsOpened Self.File.Read (files self.now) path.now) }
-        ensures opened { IfNone result ((files self.now).opens path.now ≡ false) };
+        ensures opened { IfNone result ((files self.now).opens path.now ≡ false) }
+        ensures present { OnSome result ((files self.now).absent path.now ≡ false) };
 
     /// Reports the progress of a command to the user. A failure to report changes nothing else.
     fn tell(&self, _report: ProgressReport) {}

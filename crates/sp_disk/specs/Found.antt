@@ -5,19 +5,20 @@ use Rattle.sp_command.specs.Scene.{Files}
 use Rattle.sp_disk.specs.declared.status.FileId.{FileId}
 use Rattle.sp_disk.specs.declared.status.FileStatus.{FileStatus}
 
--- For each path, this has the text of its file, if that is known; whether the file is opened for certain; and which
--- regular file the path leads to, or that it leads to none, if that is known. It has the text that standard input gives,
--- and whether standard output is a terminal, if these are known.
+-- For each path, this has the text of its file, if that is known; whether the file is opened for certain, or is absent, so that
+-- it is certain not to be opened; and which regular file the path leads to, or that it leads to none, if that is known. It has
+-- the text that standard input gives, and whether standard output is a terminal, if these are known.
 pub record FoundFiles : Type 0 where
   pub text : List ℕ → Option (List ℕ)
   pub opens : List ℕ → Bool
+  pub absent : List ℕ → Bool
   pub id : List ℕ → Option (Option FileId)
   pub stdin : Option (List ℕ)
   pub terminal : Option Bool
 
 -- Of the files of a host nothing is known.
 abbrev pub unknown_found : FoundFiles
-unknown_found = record { text = λ path. None; opens = λ path. false; id = λ path. None; stdin = None; terminal = None }
+unknown_found = record { text = λ path. None; opens = λ path. false; absent = λ path. false; id = λ path. None; stdin = None; terminal = None }
 
 -- The answer is what is known, if anything is.
 abbrev pub Tells : {A : Type 0} → (known : Option A) → (answer : A) → Type 0
@@ -64,6 +65,7 @@ abbrev pub files_of : FoundFiles → Files
 files_of found = record {
   text = λ path. if bytes_eq path dash then found.stdin else found.text path;
   opens = λ path. if bytes_eq path dash then true else found.opens path;
+  absent = λ path. if bytes_eq path dash then false else found.absent path;
   failing = λ path. Anytime;
   shown = shown_of found.terminal;
   same = λ output input. same_of (found.id output) (found.id (named input));

@@ -1,18 +1,19 @@
 //! The files of the system.
-ghost use Rattle.std.specs.Prelude.{◌≡◌, Bool, Some, IfSome, not, ◌&&◌};
+ghost use Rattle.std.specs.Prelude.{◌≡◌, Bool, false, Some, IfSome, not, ◌&&◌};
+ghost use Rattle.sp_command.specs.Outputs.{IsBlank};
 ghost use Rattle.sp_command.specs.Scene.{IsOpened};
 ghost use Rattle.sp_disk.specs.Found.{Tells, files_of, id_of};
 
+use crate::errors::Errors;
 use crate::noted::{FileNotes, Noted};
-use crate::screen::{Errors, Screen};
+use crate::screen::Screen;
 use crate::status::FileStatus;
 use crate::system::System;
 use either::Either;
 use sp_command::{Encoding, Inputs, ProgressReport};
-use sp_device::{OfRead, Read};
+use sp_device::{OfRead, Read, Write};
 use sp_word::Meter;
 use std::io;
-use std::io::Stderr;
 use std::process::Process;
 use std::rt::Clock;
 use std::sync::Wait;
@@ -22,26 +23,44 @@ use std::sync::Wait;
 pub struct Disk<'a, R, S> {
     pub rt: &'a R,
     pub system: S,
-    pub stderr: Stderr,
-    /// The process, which knows its number.
-    pub process: Process,
-    pub notes: &'a FileNotes,
-    /// Whether the output goes to a file instead of standard output.
-    pub has_output: bool,
+    // The process, which knows its number.
+    pub(crate) process: Process,
+    pub(crate) notes: &'a FileNotes,
+    // Whether the output goes to a file instead of standard output.
+    pub(crate) has_output: bool,
 }
 
 // The path of standard input, if that is a file.
 const STDIN: &str = "/dev/stdin";
 
-impl<'a, R: Eprint + Clock + Wait, S> Disk<'a, R, S> {
+impl<'a, R, S> Disk<'a, R, S> {
+    /// Returns the disk of a command that has done nothing.
+    pub fn new(rt: &'a R, system: S, process: Process, notes: &'a FileNotes) -> Self
+        ensures system { result.system ≡ system }
+        ensures output { result.has_output ≡ false }
+    {
+        Disk {
+            rt,
+            system,
+            process,
+            notes,
+            has_output: false,
+        }
+    }
+}
+
+impl<'a, R: Eprint + Clock + Wait, S: System> Disk<'a, R, S> {
     /// Returns standard error, as the screen that shows the progress of a run.
     pub fn screen(&self) -> Screen<'a, R> {
-        Screen::new(self.rt, self.stderr, self.notes.watch())
+        Screen::new(self.rt, self.system.is_error_terminal(), self.notes.watch())
     }
 
-    /// Returns standard error, for all other messages.
-    pub fn standard_error(&self) -> Errors<'a, R> {
-        Errors::new(self.screen(), self.stderr)
+    /// Returns standard error, for all other messages, before its first byte.
+    pub fn standard_error(&self) -> Errors<'a, R, S>
+        ensures blank { IsBlank (⟦<Errors<'a, R, S> as Write>⟧.written result) }
+        ensures going { ⟦<Errors<'a, R, S> as Write>⟧.has_failed result ≡ false }
+    {
+        Errors::new(self.screen(), self.system.stderr())
     }
 }
 

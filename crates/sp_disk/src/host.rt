@@ -7,12 +7,13 @@ ghost use Rattle.std.specs.Prelude.{None, true};
 use crate::status::{FileId, FileStatus};
 use crate::system::{Part, System, Target};
 use either::Either;
+use std::alloc::Global;
 use std::fs::{Metadata, OpenFile, OpenOptions, Permissions};
-use std::io::{IsTerminal, Stdin, Stdout, Write};
+use std::io::{IsTerminal, Stderr, Stdin, Stdout, Write};
 use std::os::unix::fs::{MetadataExt, OpenOptionsExt, PermissionsExt, lchown};
 use std::path::PathBuf;
-use std::rt::Files;
-use std::{fs, io};
+use std::rt::{Env, Files};
+use std::{env, fs, io};
 
 /// The system that the program runs on, of which contracts know nothing.
 #[derive(Drop)]
@@ -20,6 +21,7 @@ pub struct Host<'a, R> {
     pub rt: &'a R,
     pub stdin: Stdin,
     pub stdout: Stdout,
+    pub stderr: Stderr,
 }
 
 /// A file of the host that is being written, and its path.
@@ -55,7 +57,7 @@ impl<F: Write + OpenFile> Part for HostPart<F> {
     }
 }
 
-impl<R: Files + AllocGlobal> System for Host<'_, R> {
+impl<R: Env + Files + AllocGlobal> System for Host<'_, R> {
     type File = R::File;
 
     type Stdin = Stdin;
@@ -63,6 +65,12 @@ impl<R: Files + AllocGlobal> System for Host<'_, R> {
     type Part = HostPart<R::File>;
 
     type Device = Either<HostDevice<R::File>, Stdout>;
+
+    type Errors = Stderr;
+
+    fn words(&self, alloc: Global) -> io::Result<Vec<String>> {
+        Ok(env::args(self.rt)?.collect(alloc)?)
+    }
 
     fn open(&self, path: &str) -> io::Result<R::File> {
         fs::open(self.rt, path)
@@ -95,6 +103,14 @@ impl<R: Files + AllocGlobal> System for Host<'_, R> {
 
     fn stdout(&self) -> Self::Device {
         Either::Right(self.stdout)
+    }
+
+    fn stderr(&self) -> Stderr {
+        self.stderr
+    }
+
+    fn is_error_terminal(&self) -> bool {
+        self.stderr.is_terminal()
     }
 
     fn open_device(&mut self, path: &str) -> io::Result<Self::Device> {

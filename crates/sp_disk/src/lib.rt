@@ -5,6 +5,7 @@
 #![tactic(auto)]
 
 mod disk;
+mod errors;
 mod host;
 mod noted;
 mod output;
@@ -16,10 +17,11 @@ mod status;
 mod system;
 
 pub use disk::Disk;
+pub use errors::Errors;
 pub use host::{Host, HostDevice, HostPart};
 pub use noted::{FileNotes, Noted};
 pub use output::Output;
-pub use screen::{Errors, Screen, Watch};
+pub use screen::{Screen, Watch};
 pub use sink::{Sink, UnfinishedFile};
 pub use status::{FileId, FileStatus};
 pub use system::{Part, System, Target};

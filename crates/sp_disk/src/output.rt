@@ -58,6 +58,16 @@ impl<'a, R, S: System> Output<'a, R, S> {
         }
     }
 
+    /// Returns what is written to directly, if the output has no file with a name of its own.
+    pub fn device(&self) -> Option<&S::Device>
+        ensures { IfSome result (λ device. self.now.sink.inner ≡ Sink.Device device.now) }
+    {
+        match &self.sink.inner {
+            Sink::Part(_) => None,
+            Sink::Device(device) => Some(device),
+        }
+    }
+
     // Returns where the output goes, and whether it has failed.
     fn into_sink(self) -> (Sink<S::Part, S::Device>, bool)
         ensures sink { result.0 ≡ self.entry.sink.inner }
@@ -103,8 +113,8 @@ impl<'a, R: Eprint + Clock + Wait, S: System> Write for Output<'a, R, S> {
     }
 }
 
-// Returns how many of these bytes may still pass.
-fn passing(len: usize, passed: u64) -> usize
+/// Returns how many of these bytes may still pass.
+pub(crate) fn passing(len: usize, passed: u64) -> usize
     requires { passed ≤ 2 ^ 62 }
     ensures within { result ≤ len }
     ensures limit { passed + result ≤ 2 ^ 62 }
@@ -223,12 +233,16 @@ impl<'a, R: RandomSource + Clock + Eprint + Wait, S: System> Outputs for Disk<'a
 
 impl<'a, R: Eprint + Clock + Wait, S: System> Disk<'a, R, S> {
     /// Returns standard output, before its first byte.
-    pub fn standard_output(&self) -> Output<'a, R, S> {
+    pub fn standard_output(&self) -> Output<'a, R, S>
+        ensures blank { IsBlank (⟦<Output<'a, R, S> as Write>⟧.written result) }
+        ensures going { ⟦<Output<'a, R, S> as Write>⟧.has_failed result ≡ false }
+    {
         self.output(Sink::Device(self.system.stdout()))
     }
 
     fn output(&self, sink: Sink<S::Part, S::Device>) -> Output<'a, R, S>
-        ensures { result.sink.inner ≡ sink }
+        ensures sink { result.sink.inner ≡ sink }
+        ensures going { result.failed ≡ false }
     {
         Output::new(sink, self.notes, self.screen())
     }

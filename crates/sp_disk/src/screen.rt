@@ -6,8 +6,6 @@
 use crate::stand::Stand;
 use sp_command::ProgressReport;
 use sp_word::Meter;
-use std::io;
-use std::io::{IsTerminal, Stderr};
 use std::rt::Clock;
 use std::sync::atomic::{AtomicU64, Ordering};
 use std::sync::{Mutex, Wait};
@@ -85,7 +83,7 @@ impl Screenful {
 /// Standard error, as the screen that shows the user the progress of a run.
 pub struct Screen<'a, R> {
     rt: &'a R,
-    stderr: Stderr,
+    is_terminal: bool,
     watch: &'a Watch,
 }
 
@@ -93,7 +91,7 @@ impl<R> Drop for Screen<'_, R> {
     fn drop(self) {
         let Screen {
             rt: _,
-            stderr: _,
+            is_terminal: _,
             watch: _,
         } = self;
     }
@@ -101,8 +99,12 @@ impl<R> Drop for Screen<'_, R> {
 
 impl<'a, R: Eprint + Clock + Wait> Screen<'a, R> {
     /// Returns a screen that writes through the runtime, and keeps its notes in the watch.
-    pub fn new(rt: &'a R, stderr: Stderr, watch: &'a Watch) -> Self {
-        Screen { rt, stderr, watch }
+    pub fn new(rt: &'a R, is_terminal: bool, watch: &'a Watch) -> Self {
+        Screen {
+            rt,
+            is_terminal,
+            watch,
+        }
     }
 
     /// Notes a report, and shows it if a line is due. The file that is being read has this size, if it is known.
@@ -117,7 +119,7 @@ impl<'a, R: Eprint + Clock + Wait> Screen<'a, R> {
             Some(stand) => shown.put(stand.after(report, size, counted, now)),
             None => {
                 shown.put(Stand::new(report, size, counted, now));
-                if !self.stderr.is_terminal() {
+                if !self.is_terminal {
                     shown.at = Some(now);
                 }
             }
@@ -161,7 +163,7 @@ impl<'a, R: Eprint + Clock + Wait> Screen<'a, R> {
 
     // Shows the progress if a line is due.
     fn tell_if_due(&self, shown: &mut Screenful, now: Instant) {
-        let pause = if self.stderr.is_terminal() {
+        let pause = if self.is_terminal {
             PAUSE_ON_TERMINAL
         } else {
             PAUSE_ELSEWHERE
@@ -179,7 +181,7 @@ impl<'a, R: Eprint + Clock + Wait> Screen<'a, R> {
         let stand = stand.with_counted(self.watch.meter.count());
         let line = stand.line(now);
         // If it can't be shown, the run continues.
-        if self.stderr.is_terminal() {
+        if self.is_terminal {
             let _ = eprint!(self.rt; "\rspt: {line}\x1b[K");
             shown.is_open = true;
         } else {
@@ -216,38 +218,5 @@ impl<'a, R: Eprint + Clock + Wait> Screen<'a, R> {
         shown.is_open = false;
         shown.is_last = true;
         shown.stand = None;
-    }
-}
-
-/// Standard error, for all messages other than progress.
-pub struct Errors<'a, R> {
-    screen: Screen<'a, R>,
-    stderr: Stderr,
-}
-
-impl<R> Drop for Errors<'_, R> {
-    fn drop(self) {
-        let Errors {
-            screen: _,
-            stderr: _,
-        } = self;
-    }
-}
-
-impl<'a, R> Errors<'a, R> {
-    /// Returns a stream that ends the progress line before it writes.
-    pub fn new(screen: Screen<'a, R>, stderr: Stderr) -> Self {
-        Errors { screen, stderr }
-    }
-}
-
-impl<R: Eprint + Clock + Wait> io::Write for Errors<'_, R> {
-    fn write(&mut self, bytes: &[u8]) -> io::Result<usize> {
-        self.screen.give_way();
-        self.stderr.write(bytes)
-    }
-
-    fn flush(&mut self) -> io::Result<()> {
-        self.stderr.flush()
     }
 }

@@ -1,5 +1,5 @@
 //! What a command asks of the system, and what contracts may know of the answers.
-ghost use Rattle.std.specs.Prelude.{◌≡◌, ℕ, Bool, true, false, List, Option, Some, None, IfErr, IfOk, OnErr, OnOk, string_bytes};
+ghost use Rattle.std.specs.Prelude.{◌≡◌, ◌≢◌, ℕ, Bool, true, false, List, map, Option, Some, None, IfErr, IfOk, OnErr, OnOk, string_bytes};
 ghost use Rattle.std.specs.Io.{WritesAtMost};
 ghost use Rattle.std.specs.Io.KnownBytes.{WriteAppends};
 ghost use Rattle.std.specs.IoError.{error_kind};
@@ -8,6 +8,7 @@ ghost use Rattle.sp_disk.specs.Found.{FoundFiles, Tells, id_of, unknown_found};
 ghost use Rattle.sp_disk.specs.Made.{MadeFiles, completed, held, one_gone, one_more, unknown_made, with_place};
 
 use crate::status::FileStatus;
+use std::alloc::Global;
 use std::io;
 use std::io::ErrorKind;
 use std::path::PathBuf;
@@ -71,6 +72,12 @@ pub trait System {
     /// Something that is written to directly: a device, a pipe or standard output.
     type Device: io::Write + Drop;
 
+    /// Standard error.
+    type Errors: io::Write + Drop;
+
+    /// The words of the command line, if they are known.
+    ghost given: { Self → Option (List (List ℕ)) } = { λ _. None };
+
     /// What is known of the files that a command can read, and of the streams.
     ghost found: { Self → FoundFiles } = { λ _. unknown_found };
 
@@ -80,11 +87,20 @@ pub trait System {
     /// What is known of the files that a command makes.
     ghost made: { Self → MadeFiles } = { λ _. unknown_made };
 
+    /// Returns the words of the command line. The first is the program's name. They are refused if memory is, or if one
+    /// isn't UTF-8.
+    fn words(&self, alloc: Global) -> io::Result<Vec<String>>
+        ensures told { IfOk result
+            (λ words. Tells (given self.now) (map string_bytes words.items)) }
+        ensures refused { IfErr result (λ error. error_kind error ≢ ErrorKind.OutOfMemory
+            → given self.now ≡ None) };
+
     /// Opens a file at its start. Links are followed.
     fn open(&self, path: &str) -> io::Result<Self::File>
         ensures given { IfOk result (λ file. (text : List ℕ)
             → (found self.now).text path.now ≡ Some text → Self.File.remaining file ≡ Some text) }
-        ensures opened { OnErr result ((found self.now).opens path.now ≡ false) };
+        ensures opened { OnErr result ((found self.now).opens path.now ≡ false) }
+        ensures present { OnOk result ((found self.now).absent path.now ≡ false) };
 
     /// Returns standard input, at its current position.
     fn stdin(&self) -> Self::Stdin
@@ -111,7 +127,15 @@ pub trait System {
     fn canonicalize(&self, path: &str) -> io::Result<PathBuf>;
 
     /// Returns standard output.
-    fn stdout(&self) -> Self::Device;
+    fn stdout(&self) -> Self::Device
+        ensures blank { IsBlank (Self.Device.contents result) };
+
+    /// Returns standard error.
+    fn stderr(&self) -> Self::Errors
+        ensures blank { IsBlank (Self.Errors.contents result) };
+
+    /// Returns whether standard error is a terminal.
+    fn is_error_terminal(&self) -> bool;
 
     /// Opens something that no file can replace, to write to it directly.
     fn open_device(&mut self, path: &str) -> io::Result<Self::Device>

@@ -1,7 +1,7 @@
 -- What is known of the files that were made, where one more is complete.
 use Rattle.std.proofs.Common.{◌≡◌, refl, ap, ◌∙◌, ℕ, ◌-◌, List, [], ◌∷◌, ◌++◌, Option, Some, None, map}
 use Rattle.tests_jobs.specs.InMemory.{complete_of, made_in, with_complete, with_file, with_files}
-use Rattle.tests_jobs.specs.declared.system.CompleteFile.{CompleteFile}
+use Rattle.tests_jobs.specs.declared.made.CompleteFile.{CompleteFile}
 
 places_behind : (places : List ℕ → Option (List ℕ)) (files : List CompleteFile) (file : CompleteFile) → with_files places (files ++ file ∷ []) ≡ with_file (with_files places files) file
 places_behind places [] file = refl

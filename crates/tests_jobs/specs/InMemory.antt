@@ -1,13 +1,13 @@
 -- A system in memory.
-use Rattle.std.specs.Prelude.{ℕ, ◌+◌, ◌-◌, Bool, List, [], ◌∷◌, ◌++◌, map, Option, Some, None, is_some, option_map, if◌then◌else◌, bytes_eq, string_bytes}
+use Rattle.std.specs.Prelude.{ℕ, ◌+◌, ◌-◌, Bool, List, [], ◌∷◌, ◌++◌, map, Option, Some, None, is_some, is_none, option_map, if◌then◌else◌, bytes_eq, string_bytes}
 use Rattle.sp_command.specs.Outputs.{KeptOutput}
 use Rattle.sp_disk.specs.Found.{FoundFiles}
 use Rattle.sp_disk.specs.Made.{MadeFiles}
 use Rattle.sp_disk.specs.declared.status.FileId.{FileId}
 use Rattle.tests_jobs.specs.Memory.{text_in}
 use Rattle.tests_jobs.specs.declared.stored.StoredFile.{StoredFile}
-use Rattle.tests_jobs.specs.declared.system.CompleteFile.{CompleteFile}
-use Rattle.tests_jobs.specs.declared.system.MemoryDevice.{MemoryDevice}
+use Rattle.tests_jobs.specs.declared.made.CompleteFile.{CompleteFile}
+use Rattle.tests_jobs.specs.declared.made.MemoryDevice.{MemoryDevice}
 
 -- A path leads to the first file with that path, whose number is its index.
 abbrev pub id_from : (first : ℕ) → List StoredFile → (path : List ℕ) → Option FileId
@@ -16,7 +16,7 @@ id_from first (file ∷ more) path = if bytes_eq file.path.now path then Some (r
 
 -- All is known of what can be read.
 abbrev pub found_in : List StoredFile → (stdin : List ℕ) → (terminal : Bool) → FoundFiles
-found_in stored stdin terminal = record { text = text_in stored; opens = λ path. is_some (text_in stored path); id = λ path. Some (id_from 0 stored path); stdin = Some stdin; terminal = Some terminal }
+found_in stored stdin terminal = record { text = text_in stored; opens = λ path. is_some (text_in stored path); absent = λ path. is_none (text_in stored path); id = λ path. Some (id_from 0 stored path); stdin = Some stdin; terminal = Some terminal }
 
 -- This is the path of a device, if it has one.
 abbrev pub path_in : MemoryDevice → Option (List ℕ)

@@ -1,5 +1,5 @@
 -- Files in memory.
-use Rattle.std.specs.Prelude.{ℕ, Bool, false, List, [], ◌∷◌, map, Option, Some, None, is_some, if◌then◌else◌, bytes_eq, string_bytes}
+use Rattle.std.specs.Prelude.{ℕ, Bool, false, List, [], ◌∷◌, map, Option, Some, None, is_some, is_none, if◌then◌else◌, bytes_eq, string_bytes}
 use Rattle.sp_device.specs.Failing.{Never}
 use Rattle.sp_command.specs.Outputs.{KeptOutput, OutputFiles}
 use Rattle.sp_command.specs.Scene.{Files}
@@ -13,7 +13,7 @@ text_in (file ∷ more) path = if bytes_eq file.path.now path then Some file.tex
 
 -- Exactly the paths of files are opened. No device fails. A file has one path.
 abbrev pub files_of : List StoredFile → Files
-files_of stored = record { text = text_in stored; opens = λ path. is_some (text_in stored path); failing = λ path. Never; shown = Some false; same = λ output input. Some (bytes_eq output input) }
+files_of stored = record { text = text_in stored; opens = λ path. is_some (text_in stored path); absent = λ path. is_none (text_in stored path); failing = λ path. Never; shown = Some false; same = λ output input. Some (bytes_eq output input) }
 
 -- This is what contracts see of a file that was kept: its path and its text.
 abbrev pub kept_of : KeptFile → KeptOutput

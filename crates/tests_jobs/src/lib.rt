@@ -3,13 +3,15 @@
 //! no device fails.
 #![tactic(auto)]
 
+mod made;
 mod memory;
 mod stored;
 mod system;
 
+pub use made::{CompleteFile, MemoryDevice, MemoryPart};
 pub use memory::{KeptFile, Memory};
 pub use stored::StoredFile;
-pub use system::{CompleteFile, MemoryDevice, MemoryPart, MemorySystem};
+pub use system::MemorySystem;
 
 #[cfg(test)]
 mod batches;
@@ -33,6 +35,8 @@ mod meeting;
 mod nearest;
 #[cfg(test)]
 mod outputs;
+#[cfg(test)]
+mod program;
 #[cfg(test)]
 mod routes;
 #[cfg(test)]

@@ -1,83 +1,29 @@
 //! A system in memory, about which contracts know everything: what its files hold, which files were made, and where they are.
 //!
 //! It shows that a real type can meet the contract of `System`.
-ghost use Rattle.std.specs.Prelude.{◌≡◌, ◌+◌, [], None, Some, MatchOption, OnErr, OnOk, option_map};
+ghost use Rattle.std.specs.Prelude.{◌≡◌, ◌<◌, ◌+◌, false, true, [], None, Some, IfOk, MatchOption, OnErr, OnOk, map, option_map, string_bytes};
+ghost use Rattle.clap.specs.Walk.{texts};
 ghost use Rattle.tests_jobs.specs.InMemory.{found_in, id_from, made_in, path_in, with_complete};
 ghost use Rattle.tests_jobs.specs.Memory.{text_in};
 
+use crate::made::{CompleteFile, MemoryDevice, MemoryPart};
 use crate::stored::StoredFile;
-use sp_disk::{FileId, FileStatus, Part, System, Target};
-use std::alloc::Global;
+use sp_disk::{FileId, FileStatus, System, Target};
+use std::alloc::{AllocError, Global};
 use std::io;
 use std::io::ErrorKind;
 use std::path::PathBuf;
-
-/// A file in memory that is being written under a name of its own.
-#[derive(Drop)]
-pub struct MemoryPart {
-    text: Vec<u8>,
-    lasts: bool,
-}
-
-impl Part for MemoryPart {
-    ghost written = { λ part. Some part.text.items };
-
-    ghost lasts = { λ part. part.lasts };
-
-    fn write(&mut self, bytes: &[u8]) -> io::Result<usize> {
-        self.lasts = false;
-        io::Write::write(&mut self.text, bytes)
-    }
-
-    fn flush(&mut self) -> io::Result<()> {
-        io::Write::flush(&mut self.text)
-    }
-
-    fn sync(&mut self) -> io::Result<()> {
-        self.lasts = true;
-        Ok(())
-    }
-
-    fn status(&self) -> io::Result<FileStatus> {
-        Err(ErrorKind::Unsupported.into())
-    }
-
-    fn set_mode(&self, _mode: u32) -> io::Result<()> {
-        Ok(())
-    }
-}
-
-/// Something in memory that is written to directly.
-#[derive(Drop)]
-pub struct MemoryDevice {
-    path: Option<String>,
-    text: Vec<u8>,
-}
-
-impl io::Write for MemoryDevice {
-    ghost contents = { λ device. Some device.text.items };
-
-    fn write(&mut self, bytes: &[u8]) -> io::Result<usize> {
-        self.text.write(bytes)
-    }
-
-    fn flush(&mut self) -> io::Result<()> {
-        Ok(())
-    }
-}
-
-/// A file that is complete: the path for which it was made, its place if it has one, and its text.
-#[derive(Drop)]
-pub struct CompleteFile {
-    path: String,
-    place: Option<String>,
-    text: Vec<u8>,
-}
 
 /// A system in memory. What is made in it can't be read.
 #[derive(Drop)]
 pub struct MemorySystem<'a> {
     pub alloc: Global,
+    /// The words of the command line, unless one of them isn't UTF-8.
+    pub words: Option<&'a [&'a str]>,
+    /// Whether there is memory for the words.
+    pub has_memory: bool,
+    /// The greatest number of bytes that an output takes, and standard output.
+    pub room: usize,
     /// The files that can be read.
     pub stored: &'a [StoredFile<'a>],
     /// The text of standard input.
@@ -89,20 +35,45 @@ pub struct MemorySystem<'a> {
 }
 
 impl<'a> MemorySystem<'a> {
-    /// Returns a system with these files and this standard input, in which nothing was made.
-    pub fn new(alloc: Global, stored: &'a [StoredFile<'a>], stdin: &'a [u8], terminal: bool) -> Self
+    /// Returns a system with these words, these files and this standard input, in which nothing was made.
+    pub fn new(
+        alloc: Global,
+        words: &'a [&'a str],
+        stored: &'a [StoredFile<'a>],
+        stdin: &'a [u8],
+        terminal: bool,
+    ) -> Self
+        ensures given { ⟦<MemorySystem<'a> as System>⟧.given result ≡ Some (texts words.now) }
         ensures found { ⟦<MemorySystem<'a> as System>⟧.found result
             ≡ found_in stored.now stdin.now terminal }
         ensures made { ⟦<MemorySystem<'a> as System>⟧.made result ≡ made_in [] 0 }
     {
         MemorySystem {
             alloc,
+            words: Some(words),
+            has_memory: true,
+            room: usize::MAX,
             stored,
             stdin,
             terminal,
             complete: Vec::new(alloc),
             begun: 0,
         }
+    }
+
+    /// Returns the files that are complete, in order.
+    pub fn complete_files(&self) -> &[CompleteFile]
+        ensures { result.now ≡ self.now.complete.items }
+    {
+        &self.complete
+    }
+
+    /// Returns whether a file is begun, and neither complete nor removed.
+    pub fn has_begun(&self) -> bool
+        ensures some { result ≡ true → 0 < self.now.begun }
+        ensures none { result ≡ false → self.now.begun ≡ 0 }
+    {
+        self.begun > 0
     }
 
     // Counts one more file that is begun.
@@ -144,6 +115,17 @@ impl MemorySystem<'_> {
             Err(_) => Err(ErrorKind::OutOfMemory.into()),
         }
     }
+}
+
+// Returns copies of these words.
+fn copies(alloc: Global, words: &[&str]) -> Result<Vec<String>, AllocError>
+    ensures { IfOk result (λ all. map string_bytes all.items ≡ texts words.now) }
+{
+    let mut all = Vec::new(alloc);
+    for word in words {
+        all.push(String::from_str(alloc, word)?)?;
+    }
+    Ok(all)
 }
 
 // Returns the text of the first file with this path, if there is one.
@@ -189,11 +171,25 @@ impl<'a> System for MemorySystem<'a> {
 
     type Device = MemoryDevice;
 
+    type Errors = MemoryDevice;
+
+    ghost given = { λ system. option_map (λ words. texts words.now) system.words };
+
     ghost found = { λ system. found_in system.stored.now system.stdin.now system.terminal };
 
     ghost path_of = { path_in };
 
     ghost made = { λ system. made_in system.complete.items system.begun };
+
+    fn words(&self, alloc: Global) -> io::Result<Vec<String>> {
+        if !self.has_memory {
+            return Err(ErrorKind::OutOfMemory.into());
+        }
+        match self.words {
+            Some(words) => Ok(copies(alloc, words)?),
+            None => Err(ErrorKind::InvalidData.into()),
+        }
+    }
 
     fn open(&self, path: &str) -> io::Result<&'a [u8]> {
         match text_of(self.stored, path) {
@@ -230,17 +226,21 @@ impl<'a> System for MemorySystem<'a> {
     }
 
     fn stdout(&self) -> MemoryDevice {
-        MemoryDevice {
-            path: None,
-            text: Vec::new(self.alloc),
-        }
+        MemoryDevice::new(self.alloc, None, self.room)
+    }
+
+    fn stderr(&self) -> MemoryDevice {
+        MemoryDevice::new(self.alloc, None, usize::MAX)
+    }
+
+    fn is_error_terminal(&self) -> bool {
+        false
     }
 
     fn open_device(&mut self, path: &str) -> io::Result<MemoryDevice> {
         let path = Some(String::from_str(self.alloc, path)?);
         self.begin()?;
-        let text = Vec::new(self.alloc);
-        Ok(MemoryDevice { path, text })
+        Ok(MemoryDevice::new(self.alloc, path, self.room))
     }
 
     fn close(&mut self, device: MemoryDevice, path: &str) -> io::Result<()> {
@@ -265,8 +265,7 @@ impl<'a> System for MemorySystem<'a> {
 
     fn make(&mut self, _path: String, _mode: u32) -> io::Result<MemoryPart> {
         self.begin()?;
-        let text = Vec::new(self.alloc);
-        Ok(MemoryPart { text, lasts: false })
+        Ok(MemoryPart::new(self.alloc, self.room))
     }
 
     fn chown(

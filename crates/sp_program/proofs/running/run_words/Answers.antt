@@ -1,5 +1,5 @@
 use Rattle.std.proofs.Common.{◌≡◌, rules}
-use Rattle.spt.proofs.run_words.Goals as goal
+use Rattle.sp_program.proofs.running.run_words.Goals as goal
 
 pub returns-clause-obeyed : goal.returns-clause-obeyed
 returns-clause-obeyed g c =
