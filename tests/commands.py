@@ -3,8 +3,9 @@
 
 Usage: python3 tests/commands.py [--program PROGRAM]
 
-They are the worked examples of the formats, each kind of fault of each file with its line, the ends of what each layout holds, and
-command lines that are no order. The same trees and pairs are asked for with several deltas and numbers of workers. The last line is
+They are the worked examples of the formats, each kind of fault of each file with its line, the ends of what each layout holds,
+command lines that are no order, and by tables that must have all that the sources have, which options exclude one another, their ranges and
+their defaults. The same trees and pairs are asked for with several deltas and numbers of workers. The last line is
 'N passed, M failed'.
 """
 
@@ -16,7 +17,7 @@ import sys
 import tempfile
 
 sys.dont_write_bytecode = True
-from cases import check, matrix, nearest, offers, packed, pairs, replay, routes, shared, tree, words  # noqa: E402
+from cases import check, matrix, nearest, offers, options, packed, pairs, replay, routes, shared, tree, words  # noqa: E402
 from harness import try_all  # noqa: E402
 
 SECONDS = 120
@@ -46,16 +47,26 @@ def is_met(case, told):
         return out == "" and err != ""
     if case.is_whole:
         return (out, err) == ("", case.text)
+    if case.is_begun:
+        return out == "" and err.startswith(case.text)
     return out == "" and err.split("\n")[0] == f"spt: {case.text}" and err.endswith("\n")
 
 
 def tables(count, program, folder):
     with concurrent.futures.ThreadPoolExecutor(os.cpu_count()) as pool:
-        for table in (tree, pairs, routes, matrix, nearest, check, packed, offers, replay, words):
+        for table in (tree, pairs, routes, matrix, nearest, check, packed, offers, replay, words, options):
             cases = table.cases()
             for case, told in zip(cases, pool.map(lambda case: run(program, folder, case), cases)):
                 name = table.__name__.split(".")[-1]
                 count.of(f"{name}, {case.name}, `spt {case.line}` on {str(case.files)[:200]}: {str(told)[:200]}", is_met(case, told))
+
+
+def complete(count, program, folder):
+    """The tables of options have what the sources have: each pair that excludes one another, each range, each default."""
+    told = options.lacking()
+    for line in told:
+        count.of(line, False)
+    count.of("the tables of options are those of the sources", told == [])
 
 
 def without_words(count, program, folder):
@@ -66,4 +77,4 @@ def without_words(count, program, folder):
 
 
 if __name__ == "__main__":
-    sys.exit(try_all(__doc__, (tables, without_words)))
+    sys.exit(try_all(__doc__, (tables, complete, without_words)))

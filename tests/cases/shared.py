@@ -29,7 +29,7 @@ class Case:
 
     The words of the line stand with one blank between two. The text of the file `-` is standard input. Each character of a text is one
     byte. The text that is told stands on standard output where the command is done, and else on standard error: its first line, behind
-    `spt: `, or all of it where that is asked for.
+    `spt: `, or all of it, or its beginning, where that is asked for.
     """
 
     name: str
@@ -38,6 +38,7 @@ class Case:
     status: int
     text: str
     is_whole: bool = False
+    is_begun: bool = False
 
 
 def by_teams(cases):
