@@ -19,7 +19,7 @@ HELP = os.path.join(os.path.dirname(HERE), "tests", "help")
 FILE = "OUT"
 
 # What the manual page is of, and when that was made so; both change with a release.
-DATE = "2026-12-01"
+DATE = "2026-12-02"
 # the widest room beside a list for its terms
 WIDEST = 24
 VERSION = os.path.join(os.path.dirname(HERE), "crates", "sp_order", "src", "order.rt")
